@@ -1,0 +1,8 @@
+use crate::numbers::RegNo;
+
+/// An operand of an instruction: the value of a register, or a number.
+#[derive(Clone, Copy, Debug, PartialEq, Eq)]
+pub enum Opnd {
+    Reg(RegNo),
+    Num(i128),
+}

@@ -1,0 +1,58 @@
+ghost use Rattle.std.specs.Prelude.{◌≡◌, [], not, IfOk, OnOk, OnErr};
+ghost use Rattle.std.specs.List.{list_any};
+ghost use Rattle.std.specs.BTreeMap.{is_at};
+ghost use Rattle.std.specs.BTreeSet as set;
+
+use crate::memory::Memory;
+use std::alloc::Global;
+use std::collections::BTreeSet;
+use std::marker::Model;
+
+/// Items without doubles in the order of their type, which contracts see as the ascending list of them.
+/// Putting in and looking up take time in the logarithm of the items' number.
+#[derive(Drop)]
+pub struct OrdList<T: Ord> {
+    items: BTreeSet<T>,
+}
+
+impl<T: Ord> Model for OrdList<T> {
+    ghost use Rattle.std.specs.Prelude.{List};
+    ghost use Rattle.std.specs.Coded.{coded_list};
+
+    ghost Value = { List T };
+
+    ghost coded = { coded_list T.code };
+
+    ghost view = { λ o. o.items.keys };
+}
+
+impl<T: Ord + Drop> OrdList<T> {
+    /// No items. It takes no memory yet.
+    pub fn new(alloc: Global) -> OrdList<T>
+        ensures { result ≡ [] }
+    {
+        OrdList {
+            items: BTreeSet::new(alloc),
+        }
+    }
+
+    /// Puts `x` at its place and says whether it was new. Where an equal item is there, nothing changes. After
+    /// `Memory` nothing has changed.
+    pub fn insert(&mut self, x: T) -> Result<bool, Memory>
+        ensures ok { OnOk result (self.new ≡ set.insert_key T.cmp self.old x) }
+        ensures added { IfOk result (λ added. added ≡ not (list_any (is_at (T.cmp x)) self.old)) }
+        ensures err { OnErr result (self.new ≡ self.old) }
+    {
+        match self.items.insert(x) {
+            Ok(added) => Ok(added),
+            Err(_) => Err(Memory),
+        }
+    }
+
+    /// Whether an item equal to `x` is there.
+    pub fn has(&self, x: &T) -> bool
+        ensures { result ≡ list_any (is_at (T.cmp x.now)) self.now }
+    {
+        self.items.contains(x)
+    }
+}
