@@ -1,0 +1,6 @@
+//! The top call of cproof.
+#![tactic(auto)]
+
+mod definition;
+mod expression;
+mod lexeme;
