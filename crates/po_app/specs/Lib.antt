@@ -1,3 +1,9 @@
 pub mod Spelling
 pub mod Expressions
 pub mod Definitions
+pub mod Lowering
+pub mod Predicates
+pub mod Ranges
+pub mod Corners
+pub mod Obligations
+pub mod ReportText

@@ -4,3 +4,6 @@
 mod definition;
 mod expression;
 mod lexeme;
+mod pred;
+mod range;
+mod report;
