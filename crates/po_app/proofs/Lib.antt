@@ -1,3 +1,5 @@
 mod Corners
+mod Each
 mod Never
+mod Reached
 mod Sizes

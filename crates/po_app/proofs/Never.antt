@@ -63,7 +63,7 @@ pub tells : (op o : Over) (bits : ℕ) (a b r ends : Range) (t : Bool) → op �
 tells op o bits a b r ends t same here fits back told =
     subst (λ x. IsTrue t ↔ NeverLeaves x bits a b) (sym same)
     (let at : IsTrue t ↔ EndsFit bits ends = subst (λ x. IsTrue t ↔ EndsFit bits x) here told in
-     ((λ h. fits (at.0 h)), (λ n. at.1 (back n))))
+    ((λ h. fits (at.0 h)), (λ n. at.1 (back n))))
 
 -- the same where a number is divided
 pub tells_of_quotient : (op : Over) (bits : ℕ) (a b : Range) (t : Bool) → (op ≡ Div) ⊎ (op ≡ Rem) →

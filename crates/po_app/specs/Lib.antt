@@ -6,4 +6,5 @@ pub mod Predicates
 pub mod Ranges
 pub mod Corners
 pub mod Obligations
+pub mod Rulings
 pub mod ReportText

@@ -39,8 +39,8 @@ pub data Lowers (file : List ℕ) (params : ℕ) : Expression → ℕ → List N
   binary : (op : Op) (line taken : ℕ) (x y : Expression) (ms ns : List Node) (v w : Opnd) →
       Lowers file params x taken ms v → Lowers file params y (taken + length ms) ns w →
       Lowers file params (e.Binary op line x y) taken
-          (ms ++ (ns ++ (node_at file line (Bin (record { 0 = params + (taken + (length ms + length ns)) }) op int v w) ∷ [])))
-          (register (params + (taken + (length ms + length ns))))
+      (ms ++ (ns ++ (node_at file line (Bin (record { 0 = params + (taken + (length ms + length ns)) }) op int v w) ∷ [])))
+      (register (params + (taken + (length ms + length ns))))
 
 abbrev pub parameter_register : List ℕ → Register
 parameter_register name = record { name = Some name; ty = int; param = true }

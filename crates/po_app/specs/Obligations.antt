@@ -1,7 +1,6 @@
 -- The obligations of a project, and its report.
-use Rattle.std.specs.Prelude.{ℕ, ◌≡◌, ◌++◌, List, [], ◌∷◌, map, Option, Some, None, Bool, true, false, slice_get, pos, All, cond}
-use Rattle.std.specs.List.{flat_map, enumerate_from}
-use Rattle.std.specs.Option.{option_map, option_and_then}
+use Rattle.std.specs.Prelude.{ℕ, ◌+◌, ◌≡◌, ◌++◌, List, [], ◌∷◌, Option, Some, None, slice_get, pos, cond}
+use Rattle.std.specs.List.{AllZip}
 use Rattle.po_base.specs.declared.operators.Op.{Op}
 use Rattle.po_base.specs.declared.operators.Op.TheVariants as op
 use Rattle.po_base.specs.declared.operand.Opnd.{Opnd}
@@ -16,6 +15,7 @@ use Rattle.po_ir.specs.declared.project.Function.{Function}
 use Rattle.po_ir.specs.declared.project.Project.{Project}
 use Rattle.po_app.specs.declared.pred.Atom.TheVariants as atom
 use Rattle.po_app.specs.declared.pred.Place.{Place}
+use Rattle.po_app.specs.declared.pred.Over.{Over}
 use Rattle.po_app.specs.declared.pred.Over.TheVariants.{Add, Sub, Mul, Div, Rem}
 use Rattle.po_app.specs.declared.pred.Pred.{Pred}
 use Rattle.po_app.specs.declared.pred.Pred.TheVariants.{Nonzero, NoOver}
@@ -33,17 +33,21 @@ abbrev pub place : Opnd → Place
 place (Reg r) = record { atom = Some (atom.Reg r); lo = pos 0; hi = pos 0 }
 place (Num n) = record { atom = None; lo = n; hi = n }
 
--- a predicate on an overflow, where the type is signed; an unsigned result wraps (6.2.5p9)
-abbrev pub if_signed : IntType → Pred → List Pred
-if_signed t q = cond t.signed (q ∷ []) []
+-- the overflow of an operator, where the type is signed (6.5p5); an unsigned result wraps (6.2.5p9)
+abbrev pub overflow : Over → IntType → Place → Place → List Pred
+overflow op t a b = cond t.signed (NoOver op t.bits a (Some b) ∷ []) []
 
--- the predicates of an operator, in their order (6.5p5, 6.5.5p5)
+-- a divisor that is 0 (6.5.5p5), and the overflow
+abbrev pub division : Over → IntType → Place → Place → List Pred
+division op t a b = Nonzero b ∷ overflow op t a b
+
+-- the predicates of an operator, in their order
 abbrev pub operator_predicates : Op → IntType → Place → Place → List Pred
-operator_predicates op.Add t a b = if_signed t (NoOver Add t.bits a (Some b))
-operator_predicates op.Sub t a b = if_signed t (NoOver Sub t.bits a (Some b))
-operator_predicates op.Mul t a b = if_signed t (NoOver Mul t.bits a (Some b))
-operator_predicates op.Div t a b = Nonzero b ∷ if_signed t (NoOver Div t.bits a (Some b))
-operator_predicates op.Rem t a b = Nonzero b ∷ if_signed t (NoOver Rem t.bits a (Some b))
+operator_predicates op.Add t a b = overflow Add t a b
+operator_predicates op.Sub t a b = overflow Sub t a b
+operator_predicates op.Mul t a b = overflow Mul t a b
+operator_predicates op.Div t a b = division Div t a b
+operator_predicates op.Rem t a b = division Rem t a b
 operator_predicates _ t a b = []
 
 -- the predicates that a node's operation asks for
@@ -52,18 +56,27 @@ predicates (Bin to op (Int t) a b) = operator_predicates op t (place a) (place b
 predicates (Bin to op Ptr a b) = []
 predicates (Return value) = []
 
+-- what f makes of each item and its place, which is counted from n on
+abbrev pub each_from : {X Y : Type 0} → (ℕ → X → List Y) → ℕ → List X → List Y
+each_from f n [] = []
+each_from f n (x ∷ xs) = f n x ++ each_from f (n + 1) xs
+
 abbrev pub primary : ℕ → ℕ → ℕ → Obl
 primary f n i = record { fun = record { 0 = f }; node = record { 0 = n }; cause = Primary i }
 
-abbrev pub node_obligations : ℕ → ℕ × Node → List Obl
-node_obligations f (n, node) = map (λ iq. primary f n iq.0) (enumerate_from 0 (predicates node.instr))
+-- an obligation with its predicate
+abbrev pub Asked : Type 0
+Asked = Obl × Pred
 
-abbrev pub function_obligations : ℕ × Function → List Obl
-function_obligations (f, function) = flat_map (node_obligations f) (enumerate_from 0 function.graph.nodes)
+abbrev pub node_obligations : ℕ → ℕ → Node → List Asked
+node_obligations f n node = each_from (λ i q. (primary f n i, q) ∷ []) 0 (predicates node.instr)
+
+abbrev pub function_obligations : ℕ → Function → List Asked
+function_obligations f function = each_from (node_obligations f) 0 function.graph.nodes
 
 -- all of them, by function, node and place among the node's
-abbrev pub obligations : Project → List Obl
-obligations p = flat_map function_obligations (enumerate_from 0 p.functions)
+abbrev pub obligations : Project → List Asked
+obligations p = each_from function_obligations 0 p.functions
 
 abbrev pub function_of : Project → Obl → Option Function
 function_of p o = slice_get p.functions o.fun.0
@@ -90,11 +103,11 @@ IsVerdict q (Closed Range) = HoldsForAll q
 IsVerdict q (Delegated a) = ⊥
 IsVerdict q Open = HoldsForAll q → ⊥
 
-abbrev pub IsRuling : Project → Ruling → Type 0
-IsRuling p x = (q : Pred) × (predicate_of p x.obl ≡ Some q) × IsVerdict q x.verdict
+-- the obligation with a verdict on its predicate
+abbrev pub IsRuling : Asked → Ruling → Type 0
+IsRuling asked x = (x.obl ≡ asked.0) × IsVerdict asked.1 x.verdict
 
 -- the report lists each obligation once, in their order, with its verdict; nothing is assumed
 pub record IsReport (p : Project) (r : Report) : Type 0 where
-  pub listed : map (λ x. x.obl) r.rulings ≡ obligations p
-  pub ruled : All (IsRuling p) r.rulings
+  pub ruled : AllZip IsRuling (obligations p) r.rulings
   pub none_assumed : r.assumptions ≡ []

@@ -29,12 +29,13 @@ Fits Rem bits v w = (v ≡ neg_ℤ (pos (half bits))) × (w ≡ negsuc 0) → �
 abbrev pub IsMoved : Place → ℤ → ℤ → Type 0
 IsMoved p u v = ((u +ℤ p.lo) ≤ℤ v) × (v ≤ℤ (u +ℤ p.hi))
 
+abbrev pub MayBeFrom : Option Atom → Place → ℤ → Type 0
+MayBeFrom None p v = IsMoved p (pos 0) v
+MayBeFrom (Some atom) p v = (u : ℤ) × IsOfType 32 u × IsMoved p u v
+
 -- v may be the value of the place: an operand that is a number has that one value, any other every int
 abbrev pub MayBe : Place → ℤ → Type 0
-MayBe p v = MayBeFrom p.atom p v where
-  MayBeFrom : Option Atom → Place → ℤ → Type 0
-  MayBeFrom None p v = IsMoved p (pos 0) v
-  MayBeFrom (Some atom) p v = (u : ℤ) × IsOfType 32 u × IsMoved p u v
+MayBe p v = MayBeFrom p.atom p v
 
 -- the same of the second operand, for which an operator of one operand has 0
 abbrev pub SecondMayBe : Option Place → ℤ → Type 0

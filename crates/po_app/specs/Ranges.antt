@@ -1,5 +1,5 @@
 -- Ranges of whole numbers, and operators that never leave their type over them.
-use Rattle.std.specs.Prelude.{ℕ, ◌^◌, ◌<◌, ◌≡◌, ◌⊎◌, ℤ, pos, neg_ℤ, ◌≤ℤ◌, Option, Some, None, All, length}
+use Rattle.std.specs.Prelude.{ℕ, ◌^◌, ◌<◌, ◌≤◌, ◌≡◌, ◌⊎◌, ℤ, pos, neg_ℤ, ◌≤ℤ◌, Option, Some, None, List, All, length}
 use Rattle.po_base.specs.declared.operand.Opnd.{Opnd}
 use Rattle.po_base.specs.declared.operand.Opnd.TheVariants.{Reg, Num}
 use Rattle.po_ir.specs.declared.instr.Ty.{Ty}
@@ -47,6 +47,10 @@ IsWidth bits = (bits ≡ 32) ⊎ (bits ≡ 64)
 abbrev pub IsSmallPredicate : Pred → Type 0
 IsSmallPredicate (Nonzero x) = IsSmallPlace x
 IsSmallPredicate (NoOver op bits a b) = IsWidth bits × IsSmallPlace a × IsSmallSecond b
+
+-- at most two predicates of small numbers
+abbrev pub AreSmall : List Pred → Type 0
+AreSmall qs = (length qs ≤ 2) × All IsSmallPredicate qs
 
 abbrev pub IsSmallOperand : Opnd → Type 0
 IsSmallOperand (Reg r) = Unit {0}

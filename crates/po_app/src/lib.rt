@@ -2,8 +2,11 @@
 #![tactic(auto)]
 
 mod definition;
+mod discharge;
 mod expression;
 mod lexeme;
 mod pred;
+mod primary;
 mod range;
 mod report;
+mod solve;

@@ -29,7 +29,9 @@ pub enum Over {
 #[derive(Clone, Copy, Debug, PartialEq, Eq)]
 pub enum Pred {
     /// The value isn't 0 (C99 6.5.5p5).
-    Nonzero { x: Place },
+    Nonzero {
+        x: Place,
+    },
     /// The result of `a op b` fits the signed type of this width, 32 or 64 (C99 6.5p5).
     NoOver {
         op: Over,
