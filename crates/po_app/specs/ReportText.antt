@@ -25,20 +25,21 @@ use Rattle.po_app.specs.declared.report.Assumption.{Assumption}
 use Rattle.po_app.specs.declared.report.Report.{Report}
 use Rattle.po_app.specs.Obligations.{function_of, node_of, predicate_of}
 
--- how many registers without a name stand here
-abbrev pub unnamed : List Register → ℕ
-unnamed regs = count_by (λ r. is_none r.name) regs
+-- `%k`, where k registers without a name stand before
+abbrev pub temporary_text : List Register → List ℕ
+temporary_text before = codes "%" ++ decimal (count_by (λ r. is_none r.name) before)
 
-abbrev pub named_text : Option Register → List Register → List ℕ
-named_text None before = codes "%" ++ decimal (unnamed before)
-named_text (Some r) before = name_text r.name before where
-  name_text : Option (List ℕ) → List Register → List ℕ
-  name_text None before = codes "%" ++ decimal (unnamed before)
-  name_text (Some name) before = name
+abbrev pub name_text : Option (List ℕ) → List Register → List ℕ
+name_text None before = temporary_text before
+name_text (Some name) before = name
+
+abbrev pub found_text : Option Register → List Register → List ℕ
+found_text None before = temporary_text before
+found_text (Some r) before = name_text r.name before
 
 -- a register's name, or `%k` with k the number of registers without a name before it
 abbrev pub register_text : List Register → ℕ → List ℕ
-register_text regs r = named_text (slice_get regs r) (take r regs)
+register_text regs r = found_text (slice_get regs r) (take r regs)
 
 abbrev pub atom_text : List Register → Atom → List ℕ
 atom_text regs (Reg r) = register_text regs r.0
@@ -56,11 +57,12 @@ range_text lo hi = cond (int_eq lo hi) (signed_decimal lo) (signed_decimal lo ++
 abbrev pub offset_text : ℤ → ℤ → List ℕ
 offset_text lo hi = cond (int_eq lo hi) (cond (int_eq lo (pos 0)) [] (with_sign lo)) (with_sign lo ++ (codes ".." ++ signed_decimal hi))
 
+abbrev pub atom_place_text : Option Atom → List Register → Place → List ℕ
+atom_place_text None regs p = range_text p.lo p.hi
+atom_place_text (Some a) regs p = atom_text regs a ++ offset_text p.lo p.hi
+
 abbrev pub place_text : List Register → Place → List ℕ
-place_text regs p = from_atom p.atom regs p where
-  from_atom : Option Atom → List Register → Place → List ℕ
-  from_atom None regs p = range_text p.lo p.hi
-  from_atom (Some a) regs p = atom_text regs a ++ offset_text p.lo p.hi
+place_text regs p = atom_place_text p.atom regs p
 
 abbrev pub operator_text : Over → List ℕ
 operator_text Add = codes "add"
@@ -120,29 +122,27 @@ found_assumption p (Some f) a = assuming_text (slice_get p.files f.file.0) f a
 abbrev pub assumption_text : Project → Assumption → List ℕ
 assumption_text p a = found_assumption p (slice_get p.functions a.fun.0) a
 
-abbrev pub is_closed : Ruling → Bool
-is_closed x = by_verdict x.verdict where
-  by_verdict : Verdict → Bool
-  by_verdict (Closed rule) = true
-  by_verdict _ = false
+abbrev pub says_closed : Verdict → Bool
+says_closed (Closed rule) = true
+says_closed _ = false
 
-abbrev pub is_delegated : Ruling → Bool
-is_delegated x = by_verdict x.verdict where
-  by_verdict : Verdict → Bool
-  by_verdict (Delegated q) = true
-  by_verdict _ = false
+abbrev pub says_delegated : Verdict → Bool
+says_delegated (Delegated q) = true
+says_delegated _ = false
 
-abbrev pub is_open : Ruling → Bool
-is_open x = by_verdict x.verdict where
-  by_verdict : Verdict → Bool
-  by_verdict Open = true
-  by_verdict _ = false
+abbrev pub says_open : Verdict → Bool
+says_open Open = true
+says_open _ = false
+
+-- how many rulings have such a verdict
+abbrev pub count_of : (Verdict → Bool) → List Ruling → ℕ
+count_of says xs = count_by (λ x. says x.verdict) xs
 
 -- total N closed C delegated D open O
 abbrev pub total_text : List Ruling → List ℕ
 total_text xs =
-    codes "total " ++ (decimal (length xs) ++ (codes " closed " ++ (decimal (count_by is_closed xs) ++ (codes " delegated " ++
-    (decimal (count_by is_delegated xs) ++ (codes " open " ++ (decimal (count_by is_open xs) ++ codes "\n")))))))
+    codes "total " ++ (decimal (length xs) ++ (codes " closed " ++ (decimal (count_of says_closed xs) ++ (codes " delegated " ++
+    (decimal (count_of says_delegated xs) ++ (codes " open " ++ (decimal (count_of says_open xs) ++ codes "\n")))))))
 
 abbrev pub report_text : Project → Report → List ℕ
 report_text p r = flat_map (ruling_text p) r.rulings ++ (flat_map (assumption_text p) r.assumptions ++ total_text r.rulings)
