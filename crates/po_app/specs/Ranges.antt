@@ -2,6 +2,7 @@
 use Rattle.std.specs.Prelude.{ℕ, ◌^◌, ◌<◌, ◌≤◌, ◌≡◌, ◌⊎◌, ℤ, pos, neg_ℤ, ◌≤ℤ◌, Option, Some, None, List, All, length}
 use Rattle.po_base.specs.declared.operand.Opnd.{Opnd}
 use Rattle.po_base.specs.declared.operand.Opnd.TheVariants.{Reg, Num}
+use Rattle.po_ir.specs.declared.int_type.IntType.{IntType}
 use Rattle.po_ir.specs.declared.instr.Ty.{Ty}
 use Rattle.po_ir.specs.declared.instr.Ty.TheVariants.{Int, Ptr}
 use Rattle.po_ir.specs.declared.instr.Instr.{Instr}
@@ -47,6 +48,10 @@ IsWidth bits = (bits ≡ 32) ⊎ (bits ≡ 64)
 abbrev pub IsSmallPredicate : Pred → Type 0
 IsSmallPredicate (Nonzero x) = IsSmallPlace x
 IsSmallPredicate (NoOver op bits a b) = IsWidth bits × IsSmallPlace a × IsSmallSecond b
+
+-- a type in which C computes, and two places of small numbers
+abbrev pub AreSmallOf : IntType → Place → Place → Type 0
+AreSmallOf t a b = IsWidth t.bits × IsSmallPlace a × IsSmallPlace b
 
 -- at most two predicates of small numbers
 abbrev pub AreSmall : List Pred → Type 0

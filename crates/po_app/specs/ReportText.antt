@@ -16,6 +16,7 @@ use Rattle.po_app.specs.declared.pred.Pred.{Pred}
 use Rattle.po_app.specs.declared.pred.Pred.TheVariants.{Nonzero, NoOver}
 use Rattle.po_app.specs.declared.report.Cause.{Cause}
 use Rattle.po_app.specs.declared.report.Cause.TheVariants.{Primary, Support}
+use Rattle.po_app.specs.declared.report.Obl.{Obl}
 use Rattle.po_app.specs.declared.report.Rule.{Rule}
 use Rattle.po_app.specs.declared.report.Rule.TheVariants.{Range}
 use Rattle.po_app.specs.declared.report.Verdict.{Verdict}
@@ -96,11 +97,13 @@ abbrev pub index_of : Cause → ℕ
 index_of (Primary i) = i
 index_of (Support q) = 0
 
+-- FILE:LINE FUNCTION NODE.INDEX
+abbrev pub obligation_text : Function → Node → Obl → List ℕ
+obligation_text f n o = n.spot.file ++ codes ":" ++ decimal n.spot.line ++ codes " " ++ f.name ++ codes " " ++ decimal o.node.0 ++ codes "." ++ decimal (index_of o.cause)
+
 -- FILE:LINE FUNCTION NODE.INDEX PREDICATE STATUS
 abbrev pub line_text : Function → Node → Pred → Ruling → List ℕ
-line_text f n q x =
-    n.spot.file ++ (codes ":" ++ (decimal n.spot.line ++ (codes " " ++ (f.name ++ (codes " " ++ (decimal x.obl.node.0 ++ (codes "." ++
-    (decimal (index_of x.obl.cause) ++ (codes " " ++ (predicate_text f.graph.regs q ++ (codes " " ++ (verdict_text f.graph.regs x.verdict ++ codes "\n"))))))))))))
+line_text f n q x = obligation_text f n x.obl ++ codes " " ++ predicate_text f.graph.regs q ++ codes " " ++ verdict_text f.graph.regs x.verdict ++ codes "\n"
 
 abbrev pub found_line : Option Function → Option Node → Option Pred → Ruling → List ℕ
 found_line (Some f) (Some n) (Some q) x = line_text f n q x
@@ -138,11 +141,14 @@ says_open _ = false
 abbrev pub count_of : (Verdict → Bool) → List Ruling → ℕ
 count_of says xs = count_by (λ x. says x.verdict) xs
 
+abbrev pub counted_text : List ℕ → ℕ → List ℕ
+counted_text label count = label ++ decimal count
+
 -- total N closed C delegated D open O
 abbrev pub total_text : List Ruling → List ℕ
 total_text xs =
-    codes "total " ++ (decimal (length xs) ++ (codes " closed " ++ (decimal (count_of says_closed xs) ++ (codes " delegated " ++
-    (decimal (count_of says_delegated xs) ++ (codes " open " ++ (decimal (count_of says_open xs) ++ codes "\n")))))))
+    counted_text (codes "total ") (length xs) ++ counted_text (codes " closed ") (count_of says_closed xs) ++
+    counted_text (codes " delegated ") (count_of says_delegated xs) ++ counted_text (codes " open ") (count_of says_open xs) ++ codes "\n"
 
 abbrev pub report_text : Project → Report → List ℕ
-report_text p r = flat_map (ruling_text p) r.rulings ++ (flat_map (assumption_text p) r.assumptions ++ total_text r.rulings)
+report_text p r = flat_map (ruling_text p) r.rulings ++ flat_map (assumption_text p) r.assumptions ++ total_text r.rulings

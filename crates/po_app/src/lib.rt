@@ -10,5 +10,6 @@ mod pred;
 mod primary;
 mod range;
 mod report;
+mod report_text;
 mod solve;
 mod spell;

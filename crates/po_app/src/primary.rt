@@ -1,6 +1,6 @@
 ghost use Rattle.std.specs.Prelude.{◌≡◌, IfOk};
 ghost use Rattle.po_app.specs.Obligations.{place as place_of, overflow as overflow_of, division as division_of, operator_predicates as predicates_of_operator, predicates as predicates_of};
-ghost use Rattle.po_app.specs.Ranges.{AreSmall, IsSmallInstr, IsSmallOperand, IsSmallPlace, IsWidth};
+ghost use Rattle.po_app.specs.Ranges.{AreSmall, AreSmallOf, IsSmallInstr, IsSmallOperand, IsSmallPlace};
 
 use crate::pred::{Atom, Over, Place, Pred};
 use po_base::{List, Memory, Op, Opnd};
@@ -8,9 +8,8 @@ use po_ir::{Instr, IntType, Ty};
 use std::alloc::Global;
 
 fn place(operand: &Opnd) -> Place
-    requires { IsSmallOperand operand.now }
     ensures exact { result ≡ place_of operand.now }
-    ensures small { IsSmallPlace result }
+    ensures small { IsSmallOperand operand.now → IsSmallPlace result }
 {
     match *operand {
         Opnd::Reg(register) => Place {
@@ -34,9 +33,8 @@ fn overflow(
     a: &Place,
     b: &Place,
 ) -> Result<List<Pred>, Memory>
-    requires small { IsWidth ty.now.bits × IsSmallPlace a.now × IsSmallPlace b.now }
     ensures exact { IfOk result (λ list. list ≡ overflow_of op ty.now a.now b.now) }
-    ensures small { IfOk result AreSmall }
+    ensures small { AreSmallOf ty.now a.now b.now → IfOk result AreSmall }
 {
     let mut list = List::new(alloc);
     if ty.signed {
@@ -58,9 +56,8 @@ fn division(
     a: &Place,
     b: &Place,
 ) -> Result<List<Pred>, Memory>
-    requires small { IsWidth ty.now.bits × IsSmallPlace a.now × IsSmallPlace b.now }
     ensures exact { IfOk result (λ list. list ≡ division_of op ty.now a.now b.now) }
-    ensures small { IfOk result AreSmall }
+    ensures small { AreSmallOf ty.now a.now b.now → IfOk result AreSmall }
 {
     let mut list = List::new(alloc);
     list.push(Pred::Nonzero { x: *b })?;
@@ -82,9 +79,8 @@ fn operator_predicates(
     a: &Place,
     b: &Place,
 ) -> Result<List<Pred>, Memory>
-    requires small { IsWidth ty.now.bits × IsSmallPlace a.now × IsSmallPlace b.now }
     ensures exact { IfOk result (λ list. list ≡ predicates_of_operator op ty.now a.now b.now) }
-    ensures small { IfOk result AreSmall }
+    ensures small { AreSmallOf ty.now a.now b.now → IfOk result AreSmall }
 {
     match op {
         Op::Add => overflow(alloc, Over::Add, ty, a, b),
@@ -98,9 +94,8 @@ fn operator_predicates(
 
 /// The predicates that a node's operation asks for, in their order. In constant time.
 pub(crate) fn predicates(alloc: Global, instr: &Instr) -> Result<List<Pred>, Memory>
-    requires { IsSmallInstr instr.now }
     ensures exact { IfOk result (λ list. list ≡ predicates_of instr.now) }
-    ensures small { IfOk result AreSmall }
+    ensures small { IsSmallInstr instr.now → IfOk result AreSmall }
 {
     match instr {
         Instr::Bin {
