@@ -1,5 +1,6 @@
 mod Corners
 mod Each
+mod Lowers
 mod Never
 mod Reached
 mod Sizes

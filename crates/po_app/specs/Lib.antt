@@ -1,9 +1,7 @@
-pub mod Spelling
-pub mod Expressions
-pub mod Definitions
 pub mod Lowering
-pub mod Predicates
 pub mod Ranges
+pub mod Lowered
+pub mod Predicates
 pub mod Corners
 pub mod Obligations
 pub mod Rulings

@@ -15,9 +15,9 @@ use Rattle.po_ir.specs.declared.graph.Reg.{Reg as Register}
 use Rattle.po_ir.specs.declared.graph.Graph.{Graph}
 use Rattle.po_ir.specs.declared.project.Function.{Function}
 use Rattle.po_ir.specs.declared.project.Project.{Project}
-use Rattle.po_app.specs.declared.expression.Expression.{Expression}
-use Rattle.po_app.specs.declared.expression.Expression.TheVariants as e
-use Rattle.po_app.specs.declared.definition.Definition.{Definition}
+use Rattle.po_straight.specs.declared.expression.Expression.{Expression}
+use Rattle.po_straight.specs.declared.expression.Expression.TheVariants as e
+use Rattle.po_straight.specs.declared.definition.Definition.{Definition}
 
 -- the type int of the target: 32 bits, signed
 abbrev pub int : Ty

@@ -1,10 +1,8 @@
-//! The top call of cproof.
+//! The top call of cproof: from the words of a command to the written report.
 #![tactic(auto)]
 
-mod definition;
 mod discharge;
-mod expression;
-mod lexeme;
+mod lowering;
 mod out;
 mod pred;
 mod primary;

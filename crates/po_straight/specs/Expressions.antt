@@ -2,12 +2,12 @@
 use Rattle.std.specs.Prelude.{ℕ, ◌+◌, ◌^◌, ◌<◌, ◌≤◌, ◌≡◌, List, [], ◌∷◌, ◌++◌, Some, slice_get, max}
 use Rattle.po_base.specs.declared.operators.Op.{Op}
 use Rattle.po_base.specs.declared.operators.Op.TheVariants as op
-use Rattle.po_app.specs.declared.lexeme.Sign.{Sign}
-use Rattle.po_app.specs.declared.lexeme.Sign.TheVariants as s
-use Rattle.po_app.specs.declared.lexeme.Lexeme.{Lexeme}
-use Rattle.po_app.specs.declared.expression.Expression.{Expression, fold-Expression}
-use Rattle.po_app.specs.declared.expression.Expression.TheVariants as e
-use Rattle.po_app.specs.declared.expression.Expression.TheOpen.{Expression-F}
+use Rattle.po_straight.specs.declared.lexeme.Sign.{Sign}
+use Rattle.po_straight.specs.declared.lexeme.Sign.TheVariants as s
+use Rattle.po_straight.specs.declared.lexeme.Lexeme.{Lexeme}
+use Rattle.po_straight.specs.declared.expression.Expression.{Expression, fold-Expression}
+use Rattle.po_straight.specs.declared.expression.Expression.TheVariants as e
+use Rattle.po_straight.specs.declared.expression.Expression.TheOpen.{Expression-F}
 
 -- the operator's sign and its level: 0 for sums, 1 for products; operands have 2
 pub data IsOperator : Op → Sign → ℕ → Type 0 where

@@ -1,8 +1,8 @@
 -- Which bytes spell which signs: the lexical grammar of the served language (C99 6.4).
 use Rattle.std.specs.Prelude.{ℕ, ◌+◌, ◌^◌, ◌<◌, ◌≤◌, ◌≡◌, ◌⊎◌, List, [], ◌∷◌, ◌++◌, All, Contains, count_by, codes, decimal, ◌==◌}
-use Rattle.po_app.specs.declared.lexeme.Sign.{Sign}
-use Rattle.po_app.specs.declared.lexeme.Sign.TheVariants as s
-use Rattle.po_app.specs.declared.lexeme.Lexeme.{Lexeme}
+use Rattle.po_straight.specs.declared.lexeme.Sign.{Sign}
+use Rattle.po_straight.specs.declared.lexeme.Sign.TheVariants as s
+use Rattle.po_straight.specs.declared.lexeme.Lexeme.{Lexeme}
 
 -- space, tab and newline
 abbrev pub IsBlank : ℕ → Type 0

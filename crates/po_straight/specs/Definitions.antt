@@ -1,19 +1,15 @@
 -- Which bytes are a file of definitions `int NAME(PARAMETERS){return EXPRESSION;}` (C99 6.9.1).
 use Rattle.std.specs.Prelude.{ℕ, ◌+◌, ◌*◌, ◌^◌, ◌≤◌, ◌≡◌, List, [], ◌∷◌, ◌++◌, map, length, sum_by, Contains}
 use Rattle.std.specs.List.{flat_map}
-use Rattle.po_app.specs.declared.lexeme.Sign.{Sign}
-use Rattle.po_app.specs.declared.lexeme.Sign.TheVariants as s
-use Rattle.po_app.specs.declared.lexeme.Lexeme.{Lexeme}
-use Rattle.po_app.specs.declared.expression.Expression.{Expression, fold-Expression}
-use Rattle.po_app.specs.declared.expression.Expression.TheOpen.{Expression-F}
-use Rattle.po_app.specs.declared.definition.Definition.{Definition}
-use Rattle.po_app.specs.Spelling.{Spells}
-use Rattle.po_app.specs.Expressions.{IsExpression}
-
--- no text stands twice
-abbrev pub AllDiffer : List (List ℕ) → Type 0
-AllDiffer [] = Unit {0}
-AllDiffer (x ∷ xs) = (Contains xs x → ⊥) × AllDiffer xs
+use Rattle.po_straight.specs.declared.lexeme.Sign.{Sign}
+use Rattle.po_straight.specs.declared.lexeme.Sign.TheVariants as s
+use Rattle.po_straight.specs.declared.lexeme.Lexeme.{Lexeme}
+use Rattle.po_straight.specs.declared.expression.Expression.{Expression, fold-Expression}
+use Rattle.po_straight.specs.declared.expression.Expression.TheOpen.{Expression-F}
+use Rattle.po_straight.specs.declared.definition.Definition.{Definition}
+use Rattle.po_straight.specs.Distinct.{AllDiffer}
+use Rattle.po_straight.specs.Spelling.{Spells}
+use Rattle.po_straight.specs.Expressions.{IsExpression}
 
 abbrev pub signs : List Lexeme → List Sign
 signs xs = map (λ x. x.sign) xs
