@@ -1,5 +1,5 @@
 -- What a read gives, and what a file is read as.
-use Rattle.std.specs.Prelude.{ℕ, ◌+◌, ◌-◌, ◌<◌, ◌≤◌, ◌≡◌, ◌⊎◌, ◌↔◌, List, ◌++◌, take, drop, length, Option, Some, None, Result, Ok, Err, IfOk, IfSome}
+use Rattle.std.specs.Prelude.{ℕ, ◌-◌, ◌<◌, ◌≤◌, ◌≡◌, ◌⊎◌, ◌↔◌, List, ◌++◌, take, drop, length, Option, Result, Ok, Err, IfOk, IfSome}
 use Rattle.po_io.specs.declared.reading.ReadFail.{ReadFail}
 use Rattle.po_io.specs.declared.reading.ReadFail.TheVariants.{Failed, TooLong, Memory}
 

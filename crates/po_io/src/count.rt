@@ -5,8 +5,7 @@ ghost use Rattle.po_io.specs.Count.{risen, Rose};
 /// stands at the greatest such number, where no count can rise.
 pub fn count_rises()
     ensures { (before after : ℕ) → after < 2 ^ 64 → Rose before after ↔ ((before < after) ⊎ (after ≡ 2 ^ 64 - 1)) }
-{
-}
+{}
 
 /// The count after one more rise. At the greatest number it stays.
 pub(crate) fn rise(count: u64) -> u64

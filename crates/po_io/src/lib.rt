@@ -6,31 +6,25 @@
 #![tactic(auto)]
 
 mod count;
-mod failed;
-
-mod files;
-mod sink;
-
 mod dir_files;
+mod failed;
+mod files;
 mod mem_files;
 mod mem_sink;
-mod std_sink;
-
 mod reading;
-mod writing;
-
+mod sink;
+mod std_sink;
 #[cfg(test)]
 mod tests;
+mod writing;
 
 pub use count::count_rises;
+pub use dir_files::DirFiles;
 pub use failed::Failed;
 pub use files::Files;
-pub use sink::Sink;
-
-pub use dir_files::DirFiles;
 pub use mem_files::MemFiles;
 pub use mem_sink::MemSink;
-pub use std_sink::StdSink;
-
 pub use reading::{ReadFail, read_file};
+pub use sink::Sink;
+pub use std_sink::StdSink;
 pub use writing::{WriteFail, write_all};

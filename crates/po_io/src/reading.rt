@@ -50,7 +50,12 @@ impl From<AllocError> for ReadFail {
 ///
 /// [`ReadFail::Failed`] only where the count of faults of `name` rose in this call. [`ReadFail::TooLong`], where
 /// the file's bytes are told, exactly where they are more than `limit`.
-pub fn read_file<F: Files>(alloc: Global, files: &mut F, name: &str, limit: u64) -> Result<List<u8>, ReadFail>
+pub fn read_file<F: Files>(
+    alloc: Global,
+    files: &mut F,
+    name: &str,
+    limit: u64,
+) -> Result<List<u8>, ReadFail>
     ensures bytes { IfSome (F.held files.old name.now) (λ bytes. IsReadOf bytes limit result) }
     ensures within { IfOk result (λ read. length read ≤ limit) }
     ensures failed { IsErrOf result ReadFail.Failed → Rose (F.faults files.old name.now) (F.faults files.new name.now) }
@@ -77,7 +82,12 @@ fn zeros(alloc: Global, len: usize) -> Result<Vec<u8>, ReadFail>
 }
 
 /// Reads once behind the bytes that were read so far, and says whether some came.
-fn read_more<F: Files>(files: &mut F, name: &str, buffer: &mut [u8], read: &mut Vec<u8>) -> Result<bool, ReadFail>
+fn read_more<F: Files>(
+    files: &mut F,
+    name: &str,
+    buffer: &mut [u8],
+    read: &mut Vec<u8>,
+) -> Result<bool, ReadFail>
     requires room { 0 < length buffer.old }
     requires front { IsFront (F.held files.old name.now) read.old.items }
     ensures front { IfOk result (λ _. IsFront (F.held files.new name.now) read.new.items) }

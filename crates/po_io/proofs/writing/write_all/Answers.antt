@@ -1,4 +1,4 @@
-use Rattle.std.proofs.Common.{◌≤◌, arith}
+use Rattle.std.proofs.Common.{arith}
 use Rattle.po_io.proofs.Adding.{adds_more, within}
 use Rattle.po_io.proofs.writing.write_all.Goals as goal
 
