@@ -1,6 +1,6 @@
 -- Items with their places, one more at a time.
 use Rattle.std.proofs.Common.{◌≡◌, ℕ, suc, zero, ◌+◌, ◌<◌, List, [], ◌∷◌, ◌++◌, length, get_or, take, refl, ap, sym, ◌∙◌, append_assoc, arith, subst}
-use Rattle.std.proofs.lemmas.List.{append-nil}
+use Rattle.std.proofs.lemmas.List.{append-nil, take_more}
 use Rattle.std.specs.List.{AllZip}
 use Rattle.po_app.specs.declared.report.Ruling.{Ruling}
 use Rattle.po_app.specs.Obligations.{each_from, Asked, IsRuling}
@@ -23,7 +23,7 @@ each_from-take f xs i d h =
     let z : 0 + i ≡ i = omega arith in
     rw e (subst (λ k. each_from f 0 (take (suc i) xs) ≡ each_from f 0 (take i xs) ++ f k (get_or xs i d)) z (each_from-take-from f 0 xs i d h))
 
-AllZip-append : {A B : Type 0} (R : A → B → Type 0) (ks cs : List A) (bs ds : List B) → AllZip R ks bs → AllZip R cs ds → AllZip R (ks ++ cs) (bs ++ ds)
+pub AllZip-append : {A B : Type 0} (R : A → B → Type 0) (ks cs : List A) (bs ds : List B) → AllZip R ks bs → AllZip R cs ds → AllZip R (ks ++ cs) (bs ++ ds)
 AllZip-append R [] cs [] ds h k = k
 AllZip-append R [] cs (b ∷ bs) ds h k = absurd h
 AllZip-append R (a ∷ ks) cs [] ds h k = absurd h
@@ -53,3 +53,16 @@ pub rules-push : {X : Type 0} (f : ℕ → X → Asked) (xs : List X) (i : ℕ) 
 rules-push f xs i d x us vs ws h before pushed now =
     subst (λ l. Rules (each_from (λ j q. f j q ∷ []) 0 (take (i + 1) xs)) us l) (sym pushed)
     (subst (λ l. Rules l us (vs ++ x ∷ [])) (sym (each_from-take (λ j q. f j q ∷ []) xs i d h)) (rules-append _ _ us vs _ before (rules-one _ x vs now)))
+
+pub AllZip-length : {A B : Type 0} (R : A → B → Type 0) (ks : List A) (bs : List B) → AllZip R ks bs → length ks ≡ length bs
+AllZip-length R [] [] h = refl
+AllZip-length R [] (b ∷ bs) h = absurd h
+AllZip-length R (k ∷ ks) [] h = absurd h
+AllZip-length R (k ∷ ks) (b ∷ bs) h = ap suc (AllZip-length R ks bs h.1)
+
+-- one more item on both sides
+pub AllZip-step : {A B : Type 0} (R : A → B → Type 0) (ks : List A) (i : ℕ) (k : A) (bs cs : List B) (b : B) → i < length ks → k ≡ get_or ks i k →
+    AllZip R (take i ks) bs → R k b → cs ≡ bs ++ b ∷ [] → AllZip R (take (i + 1) ks) cs
+AllZip-step R ks i k bs cs b h is before now pushed =
+    let one : take (i + 1) ks ≡ take i ks ++ k ∷ [] = take_more ks i k h ∙ ap (λ x. take i ks ++ x ∷ []) (sym is) in
+    subst (λ l. AllZip R (take (i + 1) ks) l) (sym pushed) (subst (λ l. AllZip R l (bs ++ b ∷ [])) (sym one) (AllZip-append R (take i ks) (k ∷ []) bs (b ∷ []) before (now, tt)))

@@ -82,15 +82,15 @@ operator_appends file params line op left right old mid new v w a b =
       appended = ap (λ l. l ++ end (params + length new)) (b.appended ∙ ap (λ l. l ++ ns) a.appended) ∙ simp append_assoc refl;
       lowered = subst (λ k. Lowers file params (e.Binary op line left right) (length old) (ms ++ (ns ++ end k)) (register k)) number (binary op line (length old) left right ms ns v w a.lowered made);
       counted =
-        let appended = length-append ms (ns ++ end (params + length new)) in
-        let appended_2 = length-append ns (end (params + length new)) in
-        let both = operators-Binary op line left right in
-        let one : length (end (params + length new)) ≡ 1 = refl in
-        omega (arith, appended, appended_2, both, one, a.counted, b.counted);
+          let appended = length-append ms (ns ++ end (params + length new)) in
+          let appended_2 = length-append ns (end (params + length new)) in
+          let both = operators-Binary op line left right in
+          let one : length (end (params + length new)) ≡ 1 = refl in
+          omega (arith, appended, appended_2, both, one, a.counted, b.counted);
       small =
-        let last = node_at file line (Bin (record { 0 = params + length new }) op int v w) in
-        let here : IsSmallInstr last.instr = (inl refl, a.small_value, b.small_value) in
-        All-append (λ n. IsSmallInstr n.instr) ms _ a.small (All-append (λ n. IsSmallInstr n.instr) ns _ b.small (All-cons (λ n. IsSmallInstr n.instr) last [] here (All-nil _)));
+          let last = node_at file line (Bin (record { 0 = params + length new }) op int v w) in
+          let here : IsSmallInstr last.instr = (inl refl, a.small_value, b.small_value) in
+          All-append (λ n. IsSmallInstr n.instr) ms _ a.small (All-append (λ n. IsSmallInstr n.instr) ns _ b.small (All-cons (λ n. IsSmallInstr n.instr) last [] here (All-nil _)));
       small_value = tt;
     }
 
@@ -103,9 +103,9 @@ appends-Binary file params line op x left right first second old mid new last v 
     let b' : Appends file params right mid new w = subst (λ z. Appends file params z mid new w) s b in
     let made = operator_appends file params line op left right old mid new v w a' b' in
     let numbered : Appends file params (e.Binary op line left right) old (new ++ node_at file line (Bin (record { 0 = params + k }) op int v w) ∷ []) (register (params + k)) =
-      subst (λ i. Appends file params (e.Binary op line left right) old (new ++ node_at file line (Bin (record { 0 = params + i }) op int v w) ∷ []) (register (params + i))) (sym at) made in
+    subst (λ i. Appends file params (e.Binary op line left right) old (new ++ node_at file line (Bin (record { 0 = params + i }) op int v w) ∷ []) (register (params + i))) (sym at) made in
     let ended : Appends file params (e.Binary op line left right) old last (register (params + k)) =
-      subst (λ l. Appends file params (e.Binary op line left right) old l (register (params + k))) (sym (end ∙ ap (λ m. new ++ m ∷ []) node)) numbered in
+    subst (λ l. Appends file params (e.Binary op line left right) old l (register (params + k))) (sym (end ∙ ap (λ m. new ++ m ∷ []) node)) numbered in
     subst (λ z. Appends file params z old last (register (params + k))) (sym q) ended
 
 pub appends-length : (file : List ℕ) (params : ℕ) (x : Expression) (old new : List Node) (v : Opnd) → Appends file params x old new v → length new ≡ length old + operators x

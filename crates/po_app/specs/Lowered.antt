@@ -1,11 +1,12 @@
 -- What lowering has appended so far.
-use Rattle.std.specs.Prelude.{ℕ, ◌+◌, ◌≡◌, ◌++◌, List, [], ◌∷◌, map, length, replicate, All}
+use Rattle.std.specs.Prelude.{ℕ, ◌+◌, ◌^◌, ◌<◌, ◌≡◌, ◌++◌, List, length, All}
 use Rattle.po_base.specs.declared.operand.Opnd.{Opnd}
 use Rattle.po_ir.specs.declared.graph.Node.{Node}
-use Rattle.po_ir.specs.declared.graph.Reg.{Reg as Register}
+use Rattle.po_ir.specs.declared.graph.Graph.{Graph}
 use Rattle.po_straight.specs.declared.expression.Expression.{Expression}
+use Rattle.po_straight.specs.declared.definition.Definition.{Definition}
 use Rattle.po_straight.specs.Definitions.{operators}
-use Rattle.po_app.specs.Lowering.{Lowers, parameter_register, temporary_register}
+use Rattle.po_app.specs.Lowering.{Lowers}
 use Rattle.po_app.specs.Ranges.{IsSmallInstr, IsSmallOperand}
 
 abbrev pub AreSmallNodes : List Node → Type 0
@@ -20,5 +21,9 @@ pub record Appends (file : List ℕ) (params : ℕ) (x : Expression) (old new : 
   pub small : AreSmallNodes more
   pub small_value : IsSmallOperand v
 
-abbrev pub Registers : List (List ℕ) → ℕ → List Register
-Registers parameters count = map parameter_register parameters ++ replicate count temporary_register
+-- registers and nodes are counted in 32 bits
+abbrev pub IsCounted : Definition → Type 0
+IsCounted d = length d.parameters + operators d.value + 1 < 2 ^ 32
+
+abbrev pub IsSmallGraph : Graph → Type 0
+IsSmallGraph g = (length g.nodes < 2 ^ 32) × AreSmallNodes g.nodes
