@@ -2,5 +2,6 @@ mod Corners
 mod Each
 mod Lowers
 mod Never
+mod Pairs
 mod Reached
 mod Sizes

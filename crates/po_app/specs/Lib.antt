@@ -1,8 +1,11 @@
 pub mod Lowering
-pub mod Ranges
-pub mod Lowered
 pub mod Predicates
-pub mod Corners
 pub mod Obligations
-pub mod Rulings
 pub mod ReportText
+pub mod Command
+pub mod Outcome
+pub mod Exit
+pub mod Ranges
+pub mod Corners
+pub mod Rulings
+pub mod Lowered

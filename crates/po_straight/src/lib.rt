@@ -3,13 +3,16 @@
 //! whole C does.
 #![tactic(auto)]
 
-mod lexeme;
-mod expression;
 mod definition;
-
+mod expression;
+mod lexeme;
 mod parameters;
 mod read_expression;
 
-pub use lexeme::{Lexeme, Sign};
-pub use expression::{Expression, one_expression};
 pub use definition::Definition;
+pub use expression::{Expression, one_expression};
+pub use lexeme::{Lexeme, Sign};
+
+mod reading;
+
+pub use reading::read_definitions;
