@@ -9,11 +9,11 @@ mod primary;
 mod range;
 mod report;
 mod report_text;
-mod run;
 mod solve;
 mod spell;
 mod status;
+mod top;
 mod words;
 
-pub use run::run;
 pub use status::Status;
+pub use top::run;
