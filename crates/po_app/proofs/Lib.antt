@@ -6,3 +6,4 @@ mod Outcomes
 mod Pairs
 mod Reached
 mod Sizes
+mod Small

@@ -57,9 +57,9 @@ fn overflow(
     ensures exact { IfOk result (λ list. list ≡ overflow_of op ty.now a.now b.now) }
     ensures small { AreSmallOf ty.now a.now b.now → IfOk result AreSmall }
 {
-    let mut list = List::new(alloc);
-    add_overflow(&mut list, op, ty, a, b)?;
-    Ok(list)
+    let mut only = List::new(alloc);
+    add_overflow(&mut only, op, ty, a, b)?;
+    Ok(only)
 }
 
 /// The predicates of a division: that the divisor isn't 0, and the overflow predicate.
