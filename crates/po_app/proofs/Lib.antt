@@ -5,3 +5,4 @@ mod Never
 mod Pairs
 mod Reached
 mod Sizes
+mod Soundness

@@ -2,6 +2,7 @@
 #![tactic(auto)]
 
 mod discharge;
+mod laws;
 mod lowering;
 mod out;
 mod pred;
@@ -15,5 +16,6 @@ mod spell;
 mod status;
 mod words;
 
+pub use laws::report_is_sound;
 pub use run::run;
 pub use status::Status;

@@ -1,0 +1,10 @@
+-- Why a report is sound.
+mod Members
+mod Numbers
+mod Registers
+mod Places
+mod Served
+mod Files
+mod Graphs
+mod Results
+pub mod Along
