@@ -7,4 +7,6 @@ mod Served
 mod Files
 mod Graphs
 mod Results
+mod Decided
 pub mod Along
+pub mod Progress

@@ -1,5 +1,5 @@
 -- The meaning of a project: what a lowered function does, step by step (C99 5.1.2.3), and where it violates an obligation.
-use Rattle.std.specs.Prelude.{ℕ, zero, suc, ◌+◌, ◌^◌, ◌≡◌, ◌≢◌, ℤ, pos, ◌+ℤ◌, ◌-ℤ◌, ◌*ℤ◌, cond, List, [], ◌∷◌, ◌++◌, All, slice_get, slice_set, slice_index_or, Option, Some, None}
+use Rattle.std.specs.Prelude.{ℕ, zero, suc, ◌+◌, ◌^◌, ◌≡◌, ◌≢◌, ℤ, pos, ◌+ℤ◌, ◌-ℤ◌, ◌*ℤ◌, ◌⊎◌, cond, List, [], ◌∷◌, ◌++◌, All, slice_get, slice_set, slice_index_or, Option, Some, None}
 use Rattle.std.specs.Int.{int_rem_euclid}
 use Rattle.std.specs.Int.RustNames.{int_div, int_rem}
 use Rattle.po_base.specs.declared.operators.Op.{Op}
@@ -125,7 +125,7 @@ pub record Computes (to : ℕ) (op : Op) (t : IntType) (a b : Opnd) (fr u : Fram
   pub exact_is : IsResult op left right exact
   pub next : u ≡ put to (number (kept t exact)) fr
 
--- the next states of an instruction. At a return the run ends where no frame waits (6.8.6.4); until calls are there, none does.
+-- the next states of an instruction; at a return none follows, since no frame waits as long as there are no calls
 abbrev pub StepOf : Instr → State → State → Type 0
 StepOf (Bin to op (Int t) a b) s u = Computes to.0 op t a b s.top u.top × (u.rest ≡ s.rest)
 StepOf (Bin to op Ptr a b) s u = ⊥
@@ -142,3 +142,16 @@ pub record Step (p : Project) (s u : State) : Type 0 where
 abbrev pub Run : Project → ℕ → State → State → Type 0
 Run p zero s u = s ≡ u
 Run p (suc n) s u = (v : State) × Step p s v × Run p n v u
+
+-- the run ends here without a violation: all obligations hold, and a function returns for which no frame waits (6.8.6.4)
+pub record Ends (p : Project) (s : State) : Type 0 where
+  pub node : Node
+  pub here : node_under p s.top ≡ Some node
+  pub value : Option Opnd
+  pub returns : node.instr ≡ Return value
+  pub held : AllHold s.top (asked p s)
+  pub alone : s.rest ≡ []
+
+-- the run isn't stuck here: an obligation is violated, a next state follows, or the run ends
+abbrev pub GoesOn : Project → State → Type 0
+GoesOn p s = ((o : Obl) × Violates p s o) ⊎ ((u : State) × Step p s u) ⊎ Ends p s

@@ -16,6 +16,6 @@ mod spell;
 mod status;
 mod words;
 
-pub use laws::report_is_sound;
+pub use laws::{report_is_sound, runs_go_on};
 pub use run::run;
 pub use status::Status;

@@ -23,15 +23,16 @@ use Rattle.po_app.proofs.Soundness.Members.{In, in-right, in-each, contains, par
 use Rattle.po_app.proofs.Soundness.Registers.{Filled, filled_start, filled_more}
 use Rattle.po_app.proofs.Soundness.Places.{operand_int, holds}
 use Rattle.po_app.proofs.Soundness.Results.{counted, counted_held, counted_in, asks, asks_about, result_int}
-use Rattle.po_app.proofs.Soundness.Graphs.{IsOperation, IsAtNode, at_node, enough_registers}
+use Rattle.po_app.proofs.Soundness.Graphs.{IsOperation, IsAtNode, at_node, enough_registers, one_node}
 use Rattle.po_app.proofs.Soundness.Files.{file_served}
 
 -- each node of each function is an operation on what is there before, or a return; there are registers for the parameters
-record AreStraight (p : Project) : Type 0 where
+pub record AreStraight (p : Project) : Type 0 where
   pub nodes : (f : ℕ) (g : Function) (k : ℕ) (n : Node) → slice_get p.functions f ≡ Some g → slice_get g.graph.nodes k ≡ Some n → IsAtNode g k n
   pub enough : (f : ℕ) (g : Function) → slice_get p.functions f ≡ Some g → g.graph.params ≤ length g.graph.regs
+  pub begun : (f : ℕ) (g : Function) → slice_get p.functions f ≡ Some g → 0 < length g.graph.nodes
 
-straight : (name bytes : List ℕ) (ds : List Definition) (p : Project) → IsFile ds bytes → IsProject name ds p → AreStraight p
+pub straight : (name bytes : List ℕ) (ds : List Definition) (p : Project) → IsFile ds bytes → IsProject name ds p → AreStraight p
 straight name bytes ds p file is = record {
   nodes = λ f g k n there node.
       let d = first_at (IsFunction name) ds p.functions f g is.functions there in
@@ -39,17 +40,21 @@ straight name bytes ds p file is = record {
   enough = λ f g there.
       let d = first_at (IsFunction name) ds p.functions f g is.functions there in
       enough_registers name d.0 g d.2.graph;
+  begun = λ f g there.
+      let d = first_at (IsFunction name) ds p.functions f g is.functions there in
+      one_node name d.0 g d.2.graph;
 }
 
 -- of a frame: its parameters and the results so far are ints
-record Keeps (p : Project) (frame : Frame) : Type 0 where
+pub record Keeps (p : Project) (frame : Frame) : Type 0 where
   pub function : Function
   pub is_there : slice_get p.functions frame.fun ≡ Some function
   pub filled : Filled (function.graph.params + frame.node) frame.regs
   pub long : length frame.regs ≡ length function.graph.regs
+  pub within : frame.node < length function.graph.nodes
 
 module _ (p : Project) (r : Report) (are_straight : AreStraight p) where
-  keeps_start : (s : State) → Starts p r s → Keeps p s.top
+  pub keeps_start : (s : State) → Starts p r s → Keeps p s.top
   keeps_start s h =
       let g = h.function.graph in
       let enough = are_straight.enough s.top.fun h.function h.is_there in
@@ -64,14 +69,15 @@ module _ (p : Project) (r : Report) (are_straight : AreStraight p) where
         is_there = h.is_there;
         filled = subst (λ k. Filled k s.top.regs) count (subst (Filled (length s.top.args)) (sym h.registers) filled);
         long = ap length h.registers ∙ omega (arith, parts, first, others, enough, h.counted);
+        within = let begun = are_straight.begun s.top.fun h.function h.is_there in omega (arith, begun, h.first_node);
       }
 
-  node_at_frame : (frame : Frame) (g : Function) (n : Node) → slice_get p.functions frame.fun ≡ Some g → node_under p frame ≡ Some n → slice_get g.graph.nodes frame.node ≡ Some n
+  pub node_at_frame : (frame : Frame) (g : Function) (n : Node) → slice_get p.functions frame.fun ≡ Some g → node_under p frame ≡ Some n → slice_get g.graph.nodes frame.node ≡ Some n
   node_at_frame frame g n there here = subst (λ v. node_in v frame.node ≡ Some n) there here
 
-  keeps_operation : (s u : State) (n : Node) (k : Keeps p s.top) → IsOperation k.function.graph.params s.top.node n → k.function.graph.params + s.top.node < length k.function.graph.regs →
+  keeps_operation : (s u : State) (n : Node) (k : Keeps p s.top) → IsOperation k.function.graph.params s.top.node n → k.function.graph.params + s.top.node < length k.function.graph.regs → s.top.node + 1 < length k.function.graph.nodes →
       AllHold s.top (node_obligations s.top.fun s.top.node n) → StepOf n.instr s u → Keeps p u.top
-  keeps_operation s u n k o below held goes =
+  keeps_operation s u n k o below more held goes =
       let to = k.function.graph.params + s.top.node in
       let step = (subst (λ i. StepOf i s u) o.is goes).0 in
       let at_asks : AllHold s.top (counted s.top.fun s.top.node 0 (asks o.op o.left o.right)) = subst (λ i. AllHold s.top (counted s.top.fun s.top.node 0 (predicates i))) o.is held in
@@ -85,6 +91,7 @@ module _ (p : Project) (r : Report) (are_straight : AreStraight p) where
         is_there = k.is_there;
         filled = subst (λ i. Filled i (slice_set s.top.regs to (Some (number step.exact)))) next (filled_more to s.top.regs (number step.exact) room exact_int k.filled);
         long = length-set s.top.regs to (Some (number step.exact)) ∙ k.long;
+        within = more;
       } in
       subst (Keeps p) (sym step.next) put_keeps
 
@@ -92,18 +99,18 @@ module _ (p : Project) (r : Report) (are_straight : AreStraight p) where
   keeps_step s u step k =
       let held : AllHold s.top (asked_at s.top (Some step.node)) = subst (λ v. AllHold s.top (asked_at s.top v)) step.here step.held in
       elim (are_straight.nodes s.top.fun k.function s.top.node step.node k.is_there (node_at_frame s.top k.function step.node k.is_there step.here)) [
-        | inl o ↦ keeps_operation s u step.node k o.0 o.1 held step.goes
+        | inl o ↦ keeps_operation s u step.node k o.0 o.1 o.2 held step.goes
         | inr is ↦ absurd (subst (λ i. StepOf i s u) is.1 step.goes)
       ]
 
-  keeps_run : (n : ℕ) (s u : State) → Run p n s u → Keeps p s.top → Keeps p u.top
+  pub keeps_run : (n : ℕ) (s u : State) → Run p n s u → Keeps p s.top → Keeps p u.top
   keeps_run zero s u run k = subst (λ (v : State). Keeps p v.top) run k
   keeps_run (suc n) s u run k = keeps_run n run.0 u run.2 (keeps_step s run.0 run.1 k)
 
   -- a predicate that is asked and holds for all values of its places holds in the frame
   closed_holds : (frame : Frame) (n : Node) (o : Obl) (q : Pred) → Keeps p frame → node_under p frame ≡ Some n → In (o, q) (node_obligations frame.fun frame.node n) → HoldsForAll q → Holds frame q
   closed_holds frame n o q k here i all =
-      let asked_here = counted_in frame.fun frame.node 0 (predicates n.instr) o q i in
+      let asked_here = counted_in frame.fun frame.node 0 (predicates n.instr) (o, q) i in
       elim (are_straight.nodes frame.fun k.function frame.node n k.is_there (node_at_frame frame k.function n k.is_there here)) [
         | inl c ↦
             let at_asks : In q (asks c.0.op c.0.left c.0.right) = subst (λ j. In q (predicates j)) c.0.is asked_here in

@@ -3,15 +3,17 @@ use Rattle.std.proofs.Common.{◌≡◌, ℕ, zero, suc, ◌^◌, ◌<◌, List,
 use Rattle.std.specs.Prelude.{Some, slice_get}
 use Rattle.std.proofs.lemmas.Bool.{lt-ltb}
 use Rattle.std.proofs.lemmas.Option.{slice_get_within}
+use Rattle.po_base.specs.declared.operators.Op.{Op}
+use Rattle.po_straight.specs.declared.lexeme.Sign.{Sign}
 use Rattle.po_straight.specs.declared.lexeme.Sign.TheVariants as s
 use Rattle.po_straight.specs.declared.lexeme.Lexeme.{Lexeme}
 use Rattle.po_straight.specs.declared.expression.Expression.{Expression}
 use Rattle.po_straight.specs.declared.definition.Definition.{Definition}
 use Rattle.po_straight.specs.Spelling.{Spells, nothing, sign, IsSpelling}
-use Rattle.po_straight.specs.Expressions.{Prints, parameter, constant, paren, binary}
+use Rattle.po_straight.specs.Expressions.{IsOperator, add, sub, mul, div, rem, Prints, parameter, constant, paren, binary}
 use Rattle.po_straight.specs.Definitions.{IsDefinition, AreDefinitions, none, more, IsFile}
 use Rattle.po_app.proofs.Soundness.Members.{In, in-left, in-right}
-use Rattle.po_app.proofs.Soundness.Served.{is_served, served-Parameter, served-Constant, served-Paren, served-Binary}
+use Rattle.po_app.proofs.Soundness.Served.{is_arithmetic, is_served, served-Parameter, served-Constant, served-Paren, served-Binary}
 
 -- a constant of the type int, or no constant
 abbrev IsSmall : Lexeme → Type 0
@@ -31,6 +33,13 @@ and_true : (a b : Bool) → a ≡ true → b ≡ true → a && b ≡ true
 and_true true b h j = j
 and_true false b h j = absurd (cc)
 
+arithmetic : {o : Op} {mark : Sign} {level : ℕ} → IsOperator o mark level → is_arithmetic o ≡ true
+arithmetic add = refl
+arithmetic sub = refl
+arithmetic mul = refl
+arithmetic div = refl
+arithmetic rem = refl
+
 printed_served : {ps : List (List ℕ)} {level : ℕ} {x : Expression} {xs : List Lexeme} → Prints ps level x xs → AreSmall xs → is_served (length ps) x ≡ true
 printed_served {ps = ps} (parameter n line name there) h =
     served-Parameter (length ps) n ∙ lt-ltb n (length ps) (slice_get_within ps n name there)
@@ -39,7 +48,8 @@ printed_served {ps = ps} (constant value line) h =
 printed_served {ps = ps} (paren level first last x xs p) h =
     served-Paren (length ps) x ∙ printed_served p (λ y i. h y (inr (in-left y xs _ i)))
 printed_served {ps = ps} (binary o mark level line m k x y xs ys v low high p q) h =
-    served-Binary (length ps) o line x y ∙ and_true _ _ (printed_served p (λ z i. h z (in-left z xs _ i))) (printed_served q (λ z i. h z (in-right z xs _ (inr i))))
+    served-Binary (length ps) o line x y ∙
+    and_true _ _ (arithmetic v) (and_true _ _ (printed_served p (λ z i. h z (in-left z xs _ i))) (printed_served q (λ z i. h z (in-right z xs _ (inr i)))))
 
 definition_served : (d : Definition) (xs : List Lexeme) → IsDefinition d xs → AreSmall xs → is_served (length d.parameters) d.value ≡ true
 definition_served d xs is h =

@@ -1,5 +1,5 @@
 -- The nodes of a lowered function: operations on what is there before them, and a return.
-use Rattle.std.proofs.Common.{◌≡◌, ℕ, zero, suc, ◌+◌, ◌<◌, ◌≤◌, ◌^◌, List, [], ◌∷◌, ◌++◌, map, replicate, length, true, refl, sym, ◌∙◌, ap, subst, arith, ◌⊎◌, inl, inr, length-append}
+use Rattle.std.proofs.Common.{◌&&◌, ◌≡◌, ℕ, zero, suc, ◌+◌, ◌<◌, ◌≤◌, ◌^◌, List, [], ◌∷◌, ◌++◌, map, replicate, length, true, refl, sym, ◌∙◌, ap, subst, arith, ◌⊎◌, inl, inr, length-append}
 use Rattle.std.specs.Prelude.{Option, Some, slice_get}
 use Rattle.std.proofs.lemmas.Bool.{ltb-true}
 use Rattle.std.proofs.lemmas.List.{length-map, length-replicate}
@@ -13,11 +13,12 @@ use Rattle.po_straight.specs.declared.definition.Definition.{Definition}
 use Rattle.po_app.specs.Lowering.{Lowers, parameter, constant, paren, binary, node_at, int, IsGraph, parameter_register, temporary_register}
 use Rattle.po_app.proofs.Soundness.Numbers.{constant_int}
 use Rattle.po_app.proofs.Soundness.Places.{IsBefore, before_more}
-use Rattle.po_app.proofs.Soundness.Served.{is_served, served-Parameter, served-Constant, served-Paren, served-Binary, both}
+use Rattle.po_app.proofs.Soundness.Served.{is_arithmetic, is_served, served-Parameter, served-Constant, served-Paren, served-Binary, both}
 
 -- an operator on operands that are there before, with the next register for its result
 pub record IsOperation (params k : ℕ) (n : Node) : Type 0 where
   pub op : Op
+  pub arithmetic : is_arithmetic op ≡ true
   pub left : Opnd
   pub right : Opnd
   pub is : n.instr ≡ Bin (record { 0 = params + k }) op int left right
@@ -57,13 +58,15 @@ operations {params = params} (constant value taken) s =
 operations {params = params} (paren y taken ns w l) s =
     operations l (sym (served-Paren params y) ∙ s)
 operations {file = file} {params = params} (binary op line taken y z ms ns left right l r) s =
-    let parts = both (is_served params y) (is_served params z) (sym (served-Binary params op line y z) ∙ s) in
+    let all = both (is_arithmetic op) (is_served params y && is_served params z) (sym (served-Binary params op line y z) ∙ s) in
+    let parts = both (is_served params y) (is_served params z) all.1 in
     let first = operations l parts.0 in
     let second = operations r parts.1 in
     let to = params + (taken + (length ms + length ns)) in
     let last = node_at file line (Bin (record { 0 = to }) op int left right) in
     let here : IsOperation params (taken + (length ms + length ns)) last = record {
       op = op;
+      arithmetic = all.0;
       left = left;
       right = right;
       is = refl;
@@ -78,7 +81,9 @@ operations {file = file} {params = params} (binary op line taken y z ms ns left 
 
 -- what a node of a function does
 abbrev pub IsAtNode : Function → ℕ → Node → Type 0
-IsAtNode f k n = (IsOperation f.graph.params k n × (f.graph.params + k < length f.graph.regs)) ⊎ ((value : Option Opnd) × (n.instr ≡ Return value))
+IsAtNode f k n =
+    (IsOperation f.graph.params k n × (f.graph.params + k < length f.graph.regs) × (k + 1 < length f.graph.nodes)) ⊎
+    ((value : Option Opnd) × (n.instr ≡ Return value))
 
 last_or_before : (ns : List Node) (last n : Node) (i : ℕ) → slice_get (ns ++ last ∷ []) i ≡ Some n → ((slice_get ns i ≡ Some n) × (i < length ns)) ⊎ (last ≡ n)
 last_or_before [] last n zero q = inr (cc)
@@ -95,6 +100,16 @@ count_registers file d f g =
     let others = length-replicate (length g.nodes) temporary_register in
     omega (arith, all, parts, first, others)
 
+-- a node for each operator, and one for the return
+count_nodes : (file : List ℕ) (d : Definition) (f : Function) (g : IsGraph file d f.graph) → length f.graph.nodes ≡ length g.nodes + 1
+count_nodes file d f g =
+    let all = ap length g.all_nodes in
+    let parts = length-append g.nodes (node_at file d.line (Return (Some g.value)) ∷ []) in
+    omega (arith, all, parts)
+
+pub one_node : (file : List ℕ) (d : Definition) (f : Function) → IsGraph file d f.graph → 0 < length f.graph.nodes
+one_node file d f g = omega (arith, count_nodes file d f g)
+
 pub enough_registers : (file : List ℕ) (d : Definition) (f : Function) → IsGraph file d f.graph → f.graph.params ≤ length f.graph.regs
 enough_registers file d f g = omega (arith, count_registers file d f g, g.params)
 
@@ -109,6 +124,6 @@ at_node file d f k n g s q =
       | inl h ↦
           let below = h.1 in
           let number : 0 + k ≡ k = omega arith in
-          inl (subst (λ i. IsOperation i k n) (sym g.params) (subst (λ i. IsOperation params i n) number (operation_at params 0 g.nodes k n ops.0 h.0)), omega (arith, regs, g.params))
+          inl (subst (λ i. IsOperation i k n) (sym g.params) (subst (λ i. IsOperation params i n) number (operation_at params 0 g.nodes k n ops.0 h.0)), omega (arith, regs, g.params), omega (arith, count_nodes file d f g))
       | inr h ↦ inr (Some g.value, ap (λ (m : Node). m.instr) (sym h))
     ]

@@ -1,5 +1,5 @@
 -- Items of lists, by recursion.
-use Rattle.std.proofs.Common.{◌≡◌, ℕ, zero, suc, ◌+◌, List, [], ◌∷◌, ◌++◌, refl, sym, subst, arith, ◌⊎◌, inl, inr}
+use Rattle.std.proofs.Common.{◌≡◌, ℕ, zero, suc, ◌+◌, List, [], ◌∷◌, ◌++◌, refl, sym, subst, arith, ◌⊎◌, inl, inr, ◌<◌, length}
 use Rattle.std.specs.Prelude.{Some, All, Contains, slice_get}
 use Rattle.std.specs.List.{AllZip}
 use Rattle.std.proofs.lemmas.List.Elements.{All-head, All-tail}
@@ -59,3 +59,9 @@ first_at R [] (b ∷ ys) i y z e = absurd z
 first_at R (a ∷ xs) [] i y z e = absurd z
 first_at R (a ∷ xs) (b ∷ ys) zero y z e = let same : b ≡ y = cc in (a, refl, subst (λ w. R a w) same z.0)
 first_at R (a ∷ xs) (b ∷ ys) (suc i) y z e = first_at R xs ys i y z.1 e
+
+-- each place of the list has an item
+pub item_at : {X : Type 0} (xs : List X) (i : ℕ) → i < length xs → (x : X) × (slice_get xs i ≡ Some x)
+item_at [] i h = absurd (omega arith)
+item_at (x ∷ xs) zero h = (x, refl)
+item_at (x ∷ xs) (suc i) h = item_at xs i (omega arith)

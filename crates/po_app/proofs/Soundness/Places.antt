@@ -25,7 +25,7 @@ same_number : (u v : ℤ) → Some (number u) ≡ Some (number v) → u ≡ v
 same_number u v e = cc
 
 -- an int that a value is
-abbrev Known : Option Value → Type 0
+abbrev pub Known : Option Value → Type 0
 Known v = (u : ℤ) × (v ≡ Some (number u)) × IsOfType 32 u
 
 known : (v : Option Value) → IsIntAt v → Known v
@@ -40,6 +40,10 @@ operand_int limit (Reg r) frame v before filled is =
     subst (IsOfType 32) same k.2
 operand_int limit (Num n) frame v before filled is = subst (IsOfType 32) (same_number n v is) before
 
+pub operand_known : (limit : ℕ) (a : Opnd) (frame : Frame) → IsBefore limit a → Filled limit frame.regs → Known (operand_value frame a)
+operand_known limit (Reg r) frame before filled = known (register_value frame r.0) (filled r.0 before)
+operand_known limit (Num n) frame before filled = (n, refl, before)
+
 pub has_number : (limit : ℕ) (a : Opnd) (frame : Frame) → IsBefore limit a → Filled limit frame.regs → HasNumber frame (place a)
 has_number limit (Reg r) frame before filled = let k = known (register_value frame r.0) (filled r.0 before) in (k.0, k.1)
 has_number limit (Num n) frame before filled = (pos 0, refl)
@@ -53,6 +57,16 @@ may_be limit (Num n) frame v before filled c = subst (λ u. IsMoved (place (Num 
 pub chooses : (a : Opnd) (frame : Frame) (v : ℤ) → operand_value frame a ≡ Some (number v) → Chooses frame (place a) v
 chooses (Reg r) frame v is = (v, is, (omega (arith, ints), omega (arith, ints)))
 chooses (Num n) frame v is = let same = same_number n v is in (pos 0, refl, (omega (arith, ints, same), omega (arith, ints, same)))
+
+-- no other number is
+pub chosen : (a : Opnd) (frame : Frame) (v u : ℤ) → operand_value frame a ≡ Some (number v) → Chooses frame (place a) u → u ≡ v
+chosen (Reg r) frame v u is c = let same = same_number c.0 v (sym c.1 ∙ is) in let low = c.2.0 in let high = c.2.1 in omega (arith, ints, same, low, high)
+chosen (Num n) frame v u is c =
+    let same = same_number n v is in
+    let none = same_number (pos 0) c.0 c.1 in
+    let low = c.2.0 in
+    let high = c.2.1 in
+    omega (arith, ints, same, none, low, high)
 
 -- a predicate on the divisor, or on the result
 abbrev pub IsAbout : Opnd → Opnd → Pred → Type 0

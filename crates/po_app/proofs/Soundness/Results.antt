@@ -9,7 +9,6 @@ use Rattle.po_app.specs.declared.pred.Over.{Over}
 use Rattle.po_app.specs.declared.pred.Over.TheVariants.{Add, Sub, Mul, Div, Rem}
 use Rattle.po_app.specs.declared.pred.Pred.{Pred}
 use Rattle.po_app.specs.declared.pred.Pred.TheVariants.{Nonzero, NoOver}
-use Rattle.po_app.specs.declared.report.Obl.{Obl}
 use Rattle.po_app.specs.Predicates.{IsOfType, Fits}
 use Rattle.po_app.specs.Obligations.{Asked, place, operator_predicates, primary, each_from}
 use Rattle.po_app.specs.Meaning.{number, Frame, operand_value, Holds, AllHold, IsResult}
@@ -26,10 +25,10 @@ counted_held f n m [] q frame all i = absurd i
 counted_held f n m (r ∷ rs) q frame all (inl same) = subst (Holds frame) same (All-head (λ (a : Asked). Holds frame a.1) (primary f n m, r) (counted f n (m + 1) rs) all)
 counted_held f n m (r ∷ rs) q frame all (inr i) = counted_held f n (m + 1) rs q frame (All-tail (λ (a : Asked). Holds frame a.1) (primary f n m, r) (counted f n (m + 1) rs) all) i
 
-pub counted_in : (f n m : ℕ) (qs : List Pred) (o : Obl) (q : Pred) → In (o, q) (counted f n m qs) → In q qs
-counted_in f n m [] o q i = absurd i
-counted_in f n m (r ∷ rs) o q (inl same) = inl (ap (λ (a : Asked). a.1) same)
-counted_in f n m (r ∷ rs) o q (inr i) = inr (counted_in f n (m + 1) rs o q i)
+pub counted_in : (f n m : ℕ) (qs : List Pred) (a : Asked) → In a (counted f n m qs) → In a.1 qs
+counted_in f n m [] a i = absurd i
+counted_in f n m (r ∷ rs) a (inl same) = inl (ap (λ (b : Asked). b.1) same)
+counted_in f n m (r ∷ rs) a (inr i) = inr (counted_in f n (m + 1) rs a i)
 
 one_about : (o : Over) (a b : Opnd) (q : Pred) → In q (NoOver o 32 (place a) (Some (place b)) ∷ []) → IsAbout a b q
 one_about o a b q (inl same) = inr (o, sym same)
