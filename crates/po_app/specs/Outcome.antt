@@ -19,12 +19,20 @@ named_text what name = what ++ name ++ codes "\n"
 abbrev pub status_of : Report → Status
 status_of r = cond (count_of says_open r.rulings == 0) Clean Open
 
+-- the text is that of the report on these definitions, and the status says whether it leaves an obligation open
+pub record IsReported (name : List ℕ) (ds : List Definition) (status : Status) (text : List ℕ) : Type 0 where
+  pub project : Project
+  pub report : Report
+  pub lowered : IsProject name ds project
+  pub ruled : IsReport project report
+  pub answered : status ≡ status_of report
+  pub written : text ≡ report_text project report
+
 -- Decides name bytes status text: what is decided of a file of this name that has these bytes
 pub data Decides (name bytes : List ℕ) : Status → List ℕ → Type 0 where
   too_long : 2 ^ 24 < length bytes → Decides name bytes Refused (named_text (codes "refused too-long ") name)
   not_served : length bytes ≤ 2 ^ 24 → ((ds : List Definition) → IsFile ds bytes → ⊥) → Decides name bytes Refused (named_text (codes "refused not-yet ") name)
-  reported : (ds : List Definition) (p : Project) (r : Report) → length bytes ≤ 2 ^ 24 → IsFile ds bytes → IsProject name ds p → IsReport p r →
-      Decides name bytes (status_of r) (report_text p r)
+  reported : (ds : List Definition) (status : Status) (text : List ℕ) → length bytes ≤ 2 ^ 24 → IsFile ds bytes → IsReported name ds status text → Decides name bytes status text
 
 -- the bytes are the file's, where it tells them
 abbrev pub AreTold : Option (List ℕ) → List ℕ → Type 0

@@ -10,12 +10,12 @@ mod primary;
 mod range;
 mod report;
 mod report_text;
-mod run;
 mod solve;
 mod spell;
 mod status;
+mod top;
 mod words;
 
 pub use laws::{report_is_sound, runs_go_on};
-pub use run::run;
 pub use status::Status;
+pub use top::run;

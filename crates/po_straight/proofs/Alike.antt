@@ -1,6 +1,6 @@
 -- Expressions that differ at most in parameters of one name, and what no two ways of reading the same signs can differ in.
-use Rattle.std.proofs.Common.{◌≡◌, ℕ, suc, ◌+◌, ◌≤◌, ◌<◌, List, [], ◌∷◌, ap, sym, ◌∙◌, refl, subst, arith}
-use Rattle.std.specs.Prelude.{Option, Some, None, slice_get, max}
+use Rattle.std.proofs.Common.{◌≡◌, ℕ, List, ap, sym, ◌∙◌, refl, subst, arith}
+use Rattle.std.specs.Prelude.{Option, Some, None, slice_get}
 use Rattle.po_base.specs.declared.operators.Op.{Op}
 use Rattle.po_base.specs.declared.operators.Op.TheVariants as op
 use Rattle.po_straight.specs.declared.lexeme.Sign.{Sign}
@@ -10,7 +10,7 @@ use Rattle.po_straight.specs.declared.expression.Expression.{Expression}
 use Rattle.po_straight.specs.declared.expression.Expression.TheVariants as e
 use Rattle.po_straight.specs.Expressions.{IsOperator, add, sub, mul, div, rem, height}
 use Rattle.po_straight.specs.Reading.{GoesOn, Reads, begun, Operand, parameter, constant, paren, Climbs, stop, more}
-use Rattle.po_straight.proofs.Heights.{height-Parameter, height-Constant, height-Paren, height-Binary}
+use Rattle.po_straight.proofs.Heights.{height-Parameter, height-Paren, height-Binary}
 
 -- the operator of a sign with its level
 abbrev pub operator_of : Sign → Option (Op × ℕ)

@@ -1,6 +1,5 @@
 -- An expression has fewer operators than signs.
-use Rattle.std.proofs.Common.{◌≡◌, ℕ, ◌+◌, ◌<◌, List, [], ◌∷◌, ◌++◌, arith, length, length-append}
-use Rattle.po_straight.specs.declared.lexeme.Sign.{Sign}
+use Rattle.std.proofs.Common.{ℕ, ◌<◌, List, [], ◌∷◌, arith, length, length-append}
 use Rattle.po_straight.specs.declared.lexeme.Sign.TheVariants as s
 use Rattle.po_straight.specs.declared.lexeme.Lexeme.{Lexeme}
 use Rattle.po_straight.specs.declared.expression.Expression.{Expression}

@@ -1,5 +1,5 @@
 -- The height of each kind of expression.
-use Rattle.std.proofs.Common.{◌≡◌, ℕ, ◌+◌, ◌≤◌, ap, sym, ◌∙◌, arith}
+use Rattle.std.proofs.Common.{◌≡◌, ℕ, ◌+◌, ap, sym, ◌∙◌}
 use Rattle.std.specs.Prelude.{max}
 use Rattle.po_base.specs.declared.operators.Op.{Op}
 use Rattle.po_straight.specs.declared.expression.Expression.{Expression, fold-roll-Expression}

@@ -1,3 +1,14 @@
+mod Bytes
+mod Numerals
+mod Among
+mod Splits
+mod Shapes
+mod OneSign
+mod Following
+mod Fronts
+mod Written
+mod Nowhere
+mod Placing
 pub mod Heights
 pub mod Operators
 pub mod Few
@@ -6,3 +17,9 @@ pub mod Sound
 pub mod Complete
 pub mod Single
 pub mod Rules
+mod Listings
+mod Headers
+mod Bodies
+mod WholeBodies
+mod Beginnings
+mod Sequences

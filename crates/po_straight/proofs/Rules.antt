@@ -1,10 +1,9 @@
 -- What the reader's tests tell of the expressions that can stand at a place.
 use Rattle.std.proofs.Common.{◌≡◌, ℕ, zero, suc, add-one, ◌+◌, ◌-◌, ◌≤◌, ◌<◌, List, [], ◌∷◌, ◌++◌, ap, sym, ◌∙◌, refl, subst, arith, length, drop, length-drop, append-nil, get_or, ◌⊎◌, inl, inr}
-use Rattle.std.specs.Prelude.{Option, Some, None, max, slice_get, Contains, ◌≢◌}
+use Rattle.std.specs.Prelude.{Some, slice_get, Contains, ◌≢◌}
 use Rattle.std.proofs.Math.Seq.{drop-length, drop-cons}
 use Rattle.std.proofs.lemmas.Option.{slice_get_within, get_or_from_slice_get}
 use Rattle.po_base.specs.declared.operators.Op.{Op}
-use Rattle.po_straight.specs.declared.lexeme.Sign.{Sign}
 use Rattle.po_straight.specs.declared.lexeme.Sign.TheVariants as s
 use Rattle.po_straight.specs.declared.lexeme.Lexeme.{Lexeme}
 use Rattle.po_straight.specs.declared.expression.Expression.{Expression}
@@ -189,11 +188,6 @@ none_closed depth mark rest h none e (paren x first last ts us q r w) k =
 pub found_closed : {ps : List (List ℕ)} {ts us : List Lexeme} {x : Expression} (mark : Lexeme) (rest : List Lexeme) →
     mark.sign ≡ s.Open → ts ≡ mark ∷ rest → Closed ps rest x us → Operand ps ts (e.Paren x) us
 found_closed mark rest h q (close x last ts us r w) = rw q (paren x mark last ts us h r w)
-
--- what is closed has an expression within
-pub none_within : {ps : List (List ℕ)} {ts us : List Lexeme} {x : Expression} (depth : ℕ) →
-    ((y : Expression) (vs : List Lexeme) → Reads ps 0 ts y vs → height y ≤ depth → ⊥) → Closed ps ts x us → height x ≤ depth → ⊥
-none_within depth none (close x last ts us q w) h = none x (last ∷ us) w h
 
 -- an expression behind which no closing parenthesis stands is not closed
 pub none_unclosed : {ps : List (List ℕ)} {ts vs us : List Lexeme} {x y : Expression} →

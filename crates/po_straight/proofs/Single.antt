@@ -1,6 +1,6 @@
 -- Signs are those of one expression at most, where the parameters' names differ.
-use Rattle.std.proofs.Common.{◌≡◌, ℕ, zero, suc, ◌+◌, ◌≤◌, ◌<◌, List, [], ◌∷◌, ◌++◌, ap, sym, ◌∙◌, refl, subst, arith, append-nil}
-use Rattle.std.specs.Prelude.{Option, Some, None, slice_get}
+use Rattle.std.proofs.Common.{◌≡◌, ℕ, zero, suc, List, [], ◌∷◌, ap, sym, ◌∙◌, refl, subst, arith, append-nil}
+use Rattle.std.specs.Prelude.{Some, slice_get}
 use Rattle.std.proofs.lemmas.Option.{slice_get_within, get_or_from_slice_get}
 use Rattle.po_base.specs.declared.operators.Op.{Op}
 use Rattle.po_base.specs.declared.operators.Op.TheVariants as op
@@ -11,7 +11,7 @@ use Rattle.po_straight.specs.declared.expression.Expression.TheVariants as e
 use Rattle.po_straight.specs.declared.expression.Expression.TheOpen.{Expression-F}
 use Rattle.po_straight.specs.Distinct.{AllDiffer}
 use Rattle.po_straight.specs.Expressions.{IsOperator, add, sub, mul, div, rem, Prints, parameter as prints_parameter, constant as prints_constant, paren as prints_paren, binary as prints_binary}
-use Rattle.po_straight.specs.Reading.{GoesOn, Reads, stop}
+use Rattle.po_straight.specs.Reading.{Reads, stop}
 use Rattle.po_straight.proofs.Alike.{Alike, parameters, constants, parens, binaries, reads_same}
 use Rattle.po_straight.proofs.Complete.{reads_self}
 

@@ -1,15 +1,13 @@
 -- What is read is an expression, and the signs that it prints are those that were read.
-use Rattle.std.proofs.Common.{◌≡◌, ℕ, suc, ◌+◌, ◌≤◌, ◌<◌, List, [], ◌∷◌, ◌++◌, ap, sym, ◌∙◌, refl, subst, arith, append_assoc}
-use Rattle.std.specs.Prelude.{max}
+use Rattle.std.proofs.Common.{◌≡◌, ℕ, ◌≤◌, ◌<◌, List, [], ◌∷◌, ◌++◌, ap, sym, ◌∙◌, refl, subst, arith, append_assoc}
 use Rattle.po_base.specs.declared.operators.Op.{Op}
 use Rattle.po_straight.specs.declared.lexeme.Sign.{Sign}
 use Rattle.po_straight.specs.declared.lexeme.Sign.TheVariants as s
 use Rattle.po_straight.specs.declared.lexeme.Lexeme.{Lexeme}
 use Rattle.po_straight.specs.declared.expression.Expression.{Expression}
 use Rattle.po_straight.specs.declared.expression.Expression.TheVariants as e
-use Rattle.po_straight.specs.Expressions.{IsOperator, add, sub, mul, div, rem, height, Prints, parameter as prints_parameter, constant as prints_constant, paren as prints_paren, binary as prints_binary}
-use Rattle.po_straight.specs.Reading.{GoesOn, Reads, begun, Operand, parameter, constant, paren, Climbs, stop, more}
-use Rattle.po_straight.proofs.Heights.{height-Parameter, height-Constant, height-Paren, height-Binary}
+use Rattle.po_straight.specs.Expressions.{IsOperator, add, sub, mul, div, rem, Prints, parameter as prints_parameter, constant as prints_constant, paren as prints_paren, binary as prints_binary}
+use Rattle.po_straight.specs.Reading.{Reads, begun, Operand, parameter, constant, paren, Climbs, stop, more}
 
 pub operator_low : {o : Op} {sign : Sign} {k : ℕ} → IsOperator o sign k → k < 2
 operator_low add = omega arith

@@ -1,5 +1,5 @@
 -- Which bytes are a file of definitions `int NAME(PARAMETERS){return EXPRESSION;}` (C99 6.9.1).
-use Rattle.std.specs.Prelude.{ℕ, ◌+◌, ◌*◌, ◌^◌, ◌≤◌, ◌≡◌, List, [], ◌∷◌, ◌++◌, map, length, sum_by, Contains}
+use Rattle.std.specs.Prelude.{ℕ, ◌+◌, ◌*◌, ◌^◌, ◌≤◌, ◌≡◌, List, [], ◌∷◌, ◌++◌, map, length, sum_by}
 use Rattle.std.specs.List.{flat_map}
 use Rattle.po_straight.specs.declared.lexeme.Sign.{Sign}
 use Rattle.po_straight.specs.declared.lexeme.Sign.TheVariants as s
@@ -19,6 +19,10 @@ abbrev pub parameter_signs : List (List ℕ) → List Sign
 parameter_signs [] = s.Void ∷ []
 parameter_signs (p ∷ ps) = s.Int ∷ (s.Name p ∷ flat_map (λ q. s.Comma ∷ (s.Int ∷ (s.Name q ∷ []))) ps)
 
+-- `int NAME(PARAMETERS){`
+abbrev pub heading_signs : List ℕ → List (List ℕ) → List Sign
+heading_signs name parameters = s.Int ∷ (s.Name name ∷ (s.Open ∷ (parameter_signs parameters ++ (s.Close ∷ (s.OpenBrace ∷ [])))))
+
 -- the operators of one layer
 abbrev pub operators_of : Expression-F ℕ → ℕ
 operators_of (Expression-F.Parameter n) = 0
@@ -30,10 +34,13 @@ operators_of (Expression-F.Binary o line x y) = x + y + 1
 unfoldable pub operators : Expression → ℕ
 operators = fold-Expression ℕ operators_of
 
--- nodes times registers of the graph: a node for each operator and one for `return`, a register for each
--- parameter and for each operator
+-- nodes times registers of a graph: a node for each operator and one for `return`, a register for each parameter
+-- and for each operator
+abbrev pub register_steps : ℕ → Expression → ℕ
+register_steps parameters value = (operators value + 1) * (parameters + operators value)
+
 abbrev pub graph_size : Definition → ℕ
-graph_size d = (operators d.value + 1) * (length d.parameters + operators d.value)
+graph_size d = register_steps (length d.parameters) d.value
 
 -- the signs are those of the definition
 pub record IsDefinition (d : Definition) (xs : List Lexeme) : Type 0 where
@@ -41,7 +48,7 @@ pub record IsDefinition (d : Definition) (xs : List Lexeme) : Type 0 where
   pub value : List Lexeme
   pub tail : List Lexeme
   pub parts : xs ≡ head ++ (record { sign = s.Return; line = d.line } ∷ (value ++ tail))
-  pub heading : signs head ≡ s.Int ∷ (s.Name d.name ∷ (s.Open ∷ (parameter_signs d.parameters ++ (s.Close ∷ (s.OpenBrace ∷ [])))))
+  pub heading : signs head ≡ heading_signs d.name d.parameters
   pub valued : IsExpression d.parameters d.value value
   pub ending : signs tail ≡ s.Semicolon ∷ (s.CloseBrace ∷ [])
   pub distinct : AllDiffer d.parameters
@@ -52,11 +59,15 @@ pub data AreDefinitions : List Definition → List Lexeme → Type 0 where
   none : AreDefinitions [] []
   more : (d : Definition) (ds : List Definition) (xs ys : List Lexeme) → IsDefinition d xs → AreDefinitions ds ys → AreDefinitions (d ∷ ds) (xs ++ ys)
 
--- the bytes are a served file of these definitions
-pub record IsFile (ds : List Definition) (bytes : List ℕ) : Type 0 where
-  pub lexemes : List Lexeme
-  pub spelled : Spells 1 lexemes bytes
+-- the signs are those of these definitions, whose names differ, within the limits on a file
+pub record AreServed (ds : List Definition) (lexemes : List Lexeme) : Type 0 where
   pub defined : AreDefinitions ds lexemes
   pub distinct : AllDiffer (map (λ d. d.name) ds)
   pub few : length ds ≤ 65535
   pub small : sum_by graph_size ds ≤ 2 ^ 24
+
+-- the bytes are a served file of these definitions
+pub record IsFile (ds : List Definition) (bytes : List ℕ) : Type 0 where
+  pub lexemes : List Lexeme
+  pub spelled : Spells 1 lexemes bytes
+  pub served : AreServed ds lexemes

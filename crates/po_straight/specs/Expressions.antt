@@ -1,5 +1,5 @@
 -- Which signs print which expression: C's additive and multiplicative expressions (C99 6.5.5, 6.5.6).
-use Rattle.std.specs.Prelude.{ℕ, ◌+◌, ◌^◌, ◌<◌, ◌≤◌, ◌≡◌, List, [], ◌∷◌, ◌++◌, Some, slice_get, max}
+use Rattle.std.specs.Prelude.{ℕ, ◌+◌, ◌<◌, ◌≤◌, ◌≡◌, List, [], ◌∷◌, ◌++◌, Some, slice_get, max}
 use Rattle.po_base.specs.declared.operators.Op.{Op}
 use Rattle.po_base.specs.declared.operators.Op.TheVariants as op
 use Rattle.po_straight.specs.declared.lexeme.Sign.{Sign}
@@ -41,7 +41,7 @@ path_of (Expression-F.Binary o line x y) = max x y + 1
 unfoldable pub height : Expression → ℕ
 height = fold-Expression ℕ path_of
 
--- the signs print x, which is nested no deeper than is served
+-- the signs print x, and no path from its root to a leaf has more than 256 expressions
 pub record IsExpression (parameters : List (List ℕ)) (x : Expression) (xs : List Lexeme) : Type 0 where
   pub level : ℕ
   pub printed : Prints parameters level x xs

@@ -1,13 +1,12 @@
 -- How an expression is read from the left: its first operand, then one after the other the operators that
 -- follow it, each with its right operand.
-use Rattle.std.specs.Prelude.{ℕ, ◌+◌, ◌≤◌, ◌<◌, ◌≡◌, List, [], ◌∷◌, Option, Some, None, slice_get, length, drop}
+use Rattle.std.specs.Prelude.{ℕ, ◌+◌, ◌≤◌, ◌≡◌, List, [], ◌∷◌, Some, slice_get}
 use Rattle.po_base.specs.declared.operators.Op.{Op}
-use Rattle.po_straight.specs.declared.lexeme.Sign.{Sign}
 use Rattle.po_straight.specs.declared.lexeme.Sign.TheVariants as s
 use Rattle.po_straight.specs.declared.lexeme.Lexeme.{Lexeme}
 use Rattle.po_straight.specs.declared.expression.Expression.{Expression}
 use Rattle.po_straight.specs.declared.expression.Expression.TheVariants as e
-use Rattle.po_straight.specs.Expressions.{IsOperator, height}
+use Rattle.po_straight.specs.Expressions.{IsOperator}
 
 -- the signs begin with an operator of a level from l to m
 abbrev pub GoesOn : ℕ → ℕ → List Lexeme → Type 0

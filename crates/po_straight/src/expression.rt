@@ -1,4 +1,4 @@
-ghost use Rattle.std.specs.Prelude.{ℕ, List as Sequence, ◌≡◌, ◌<◌, ◌^◌};
+ghost use Rattle.std.specs.Prelude.{ℕ, List, ◌≡◌, ◌<◌, ◌^◌};
 ghost use Rattle.po_straight.specs.declared.expression.Expression.{Expression as Tree};
 ghost use Rattle.po_straight.specs.declared.lexeme.Lexeme.{Lexeme};
 ghost use Rattle.po_straight.specs.Distinct.{AllDiffer};
@@ -40,5 +40,5 @@ impl Expression {
 
 /// Signs are those of one expression at most, which has one level, where no two parameters have the same name.
 pub fn one_expression()
-    ensures { (parameters : Sequence (Sequence ℕ)) (m k : ℕ) (x y : Tree) (signs : Sequence Lexeme) → AllDiffer parameters → Prints parameters m x signs → Prints parameters k y signs → (x ≡ y) × (m ≡ k) }
+    ensures { (parameters : List (List ℕ)) (m k : ℕ) (x y : Tree) (signs : List Lexeme) → AllDiffer parameters → Prints parameters m x signs → Prints parameters k y signs → (x ≡ y) × (m ≡ k) }
 {}

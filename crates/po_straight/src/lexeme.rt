@@ -1,7 +1,7 @@
 use po_base::Text;
 
 /// A sign of the served language: a keyword, a name, a constant or a mark (C99 6.4).
-#[derive(Debug, Drop)]
+#[derive(Debug, Drop, PartialEq, Eq)]
 pub enum Sign {
     Int,
     Void,

@@ -280,14 +280,14 @@ mod tests {
 
     /// What is read of the signs over the parameters `a` and `b`: the top and the number of operators.
     fn reading(alloc: Global, bytes: &[u8]) -> Result<Option<(u32, u32)>, Memory> {
-        let mut names = List::new(alloc);
-        names.push(Text::new(alloc, b"a")?)?;
-        names.push(Text::new(alloc, b"b")?)?;
+        let mut parameters = Parameters::new(alloc);
+        let _ = parameters.insert(Text::new(alloc, b"a")?)?;
+        let _ = parameters.insert(Text::new(alloc, b"b")?)?;
         let lexemes = signs(alloc, bytes)?;
         if lexemes.len() > 1 << 24 {
             return Ok(None);
         }
-        match read_expression(alloc, lexemes.as_slice(), &Parameters::new(names))? {
+        match read_expression(alloc, lexemes.as_slice(), &parameters)? {
             Some(value) => Ok(Some((top(&value), value.operators()))),
             None => Ok(None),
         }

@@ -1,9 +1,9 @@
-use Rattle.std.proofs.Common.{rules, ◌≡◌, ◌≤◌, ◌<◌, ◌∷◌, ◌+◌, drop, length, arith, sym, ap, refl, subst, ◌∙◌, drop_of_length-le}
+use Rattle.std.proofs.Common.{◌+◌, drop, arith, sym, ap, refl, drop_of_length-le}
 use Rattle.po_straight.specs.declared.expression.Expression.TheVariants as e
 use Rattle.po_straight.specs.Expressions.{height}
 use Rattle.po_straight.specs.Reading.{Operand, parameter, constant, stop}
 use Rattle.po_straight.proofs.Heights.{height-Parameter, height-Constant, height-Paren, height-Binary}
-use Rattle.po_straight.proofs.Rules.{Leads, at_place, low_level, starts, steps, too_high, no_right, no_operand, none_at_end, none_flat, none_named, none_begun, none_closed, found_closed, none_within, none_unclosed, is_closed}
+use Rattle.po_straight.proofs.Rules.{at_place, low_level, starts, steps, too_high, no_right, no_operand, none_at_end, none_flat, none_named, none_begun, none_closed, found_closed, none_unclosed, is_closed}
 use Rattle.po_straight.proofs.read_expression.+reader.Goals as goal
 use Rattle.po_straight.proofs.read_expression.+reader.Goals.{operand-then-depth-eq0-via-then-depth-eq0, operand-then-depth-eq0-via-else-depth-eq0+then-at-lexemes}
 

@@ -1,4 +1,4 @@
-use Rattle.std.proofs.Common.{◌≡◌, ◌<◌, arith, length}
+use Rattle.std.proofs.Common.{arith}
 use Rattle.po_straight.proofs.Rules.{at_place, out_of_range}
 use Rattle.po_straight.proofs.read_expression.operator_at.Goals as goal
 

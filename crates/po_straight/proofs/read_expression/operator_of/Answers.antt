@@ -1,4 +1,4 @@
-use Rattle.std.proofs.Common.{◌≡◌, subst, sym, ℕ}
+use Rattle.std.proofs.Common.{subst, sym}
 use Rattle.po_base.specs.declared.operators.Op.TheVariants as op
 use Rattle.po_straight.specs.Expressions.{IsOperator, add, sub, mul, div, rem}
 use Rattle.po_straight.proofs.read_expression.operator_of.Goals as goal

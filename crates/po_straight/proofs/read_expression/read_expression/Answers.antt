@@ -1,4 +1,3 @@
-use Rattle.std.proofs.Common.{◌≡◌}
 use Rattle.po_straight.proofs.Rules.{whole, none_whole, none_expression}
 use Rattle.po_straight.proofs.Few.{few}
 use Rattle.po_straight.proofs.read_expression.read_expression.Goals as goal

@@ -1,17 +1,19 @@
-ghost use Rattle.std.specs.Prelude.{ℕ, List as Sequence, ◌≡◌, ◌≤◌, ◌^◌, ◌⊎◌, length, map, string_bytes, IfOk};
+ghost use Rattle.std.specs.Prelude.{ℕ, List as Sequence, ◌≡◌, ◌<◌, ◌≤◌, ◌^◌, ◌⊎◌, All, length, map, string_bytes, IfOk};
 ghost use Rattle.po_io.specs.Count.{Rose};
 ghost use Rattle.po_app.specs.Command.{IsCheck};
-ghost use Rattle.po_app.specs.Outcome.{named_text, Decides, Answers, Ends, Told};
+ghost use Rattle.po_app.specs.Lowered.{IsCounted};
+ghost use Rattle.po_app.specs.Outcome.{named_text, status_of as status_of_report, IsReported, Decides, Answers, Ends, Told};
 
 use crate::lowering::project;
 use crate::out::Out;
+use crate::report::Report;
 use crate::report_text::{count_open, report_text};
 use crate::solve::solve;
 use crate::status::Status;
 use crate::words::file_to_check;
-use po_base::{Memory, Text};
+use po_base::{List, Memory, Text};
 use po_io::{Files, ReadFail, Sink, read_file, write_all};
-use po_straight::read_definitions;
+use po_straight::{Definition, read_definitions};
 use std::alloc::Global;
 
 /// The greatest number of bytes of a file that is served.
@@ -35,27 +37,45 @@ fn line_of(alloc: Global, what: &[u8], name: &str) -> Result<Vec<u8>, Memory>
     Ok(out.into_bytes())
 }
 
+/// The report on the definitions of a file.
+fn report_on(alloc: Global, name: &str, definitions: &List<Definition>) -> Result<Decision, Memory>
+    requires few { length definitions.now < 2 ^ 32 }
+    requires counted { All IsCounted definitions.now }
+    ensures { IfOk result (λ decision. IsReported name.now definitions.now decision.status decision.text.items) }
+{
+    let file = Text::new(alloc, name.as_bytes())?;
+    let project = project(alloc, &file, definitions)?;
+    let report = solve(alloc, &project)?;
+    let text = report_text(alloc, &project, &report)?;
+    Ok(Decision {
+        status: status_of(&report),
+        text,
+    })
+}
+
+/// Open where an obligation is left open, and clean otherwise.
+fn status_of(report: &Report) -> Status
+    ensures { result ≡ status_of_report report.now }
+{
+    if count_open(report.rulings.as_slice()) == 0 {
+        Status::Clean
+    } else {
+        Status::Open
+    }
+}
+
 /// What is decided of a file's bytes.
 fn judge(alloc: Global, name: &str, bytes: &[u8]) -> Result<Decision, Memory>
     requires { length bytes.now ≤ 2 ^ 24 }
     ensures { IfOk result (λ decision. Decides name.now bytes.now decision.status decision.text.items) }
 {
-    let Some(definitions) = read_definitions(alloc, bytes)? else {
-        return Ok(Decision {
+    match read_definitions(alloc, bytes)? {
+        Some(definitions) => Ok(report_on(alloc, name, &definitions)?),
+        None => Ok(Decision {
             status: Status::Refused,
             text: line_of(alloc, b"refused not-yet ", name)?,
-        });
-    };
-    let file = Text::new(alloc, name.as_bytes())?;
-    let project = project(alloc, &file, &definitions)?;
-    let report = solve(alloc, &project)?;
-    let text = report_text(alloc, &project, &report)?;
-    let status = if count_open(report.rulings.as_slice()) == 0 {
-        Status::Clean
-    } else {
-        Status::Open
-    };
-    Ok(Decision { status, text })
+        }),
+    }
 }
 
 /// What is decided on these words.
@@ -72,7 +92,7 @@ fn decide<F: Files>(alloc: Global, words: &Vec<String>, files: &mut F) -> Result
         });
     };
     match read_file(alloc, files, name, MOST_BYTES) {
-        Ok(bytes) => judge(alloc, name, bytes.as_slice()),
+        Ok(bytes) => Ok(judge(alloc, name, bytes.as_slice())?),
         Err(ReadFail::TooLong) => Ok(Decision {
             status: Status::Refused,
             text: line_of(alloc, b"refused too-long ", name)?,
