@@ -65,4 +65,4 @@ definitions_served (more g gs xs ys is rest) h (suc i) d q = definitions_served 
 
 -- of a file that spells these definitions
 pub file_served : (ds : List Definition) (bytes : List ℕ) → IsFile ds bytes → (i : ℕ) (d : Definition) → slice_get ds i ≡ Some d → is_served (length d.parameters) d.value ≡ true
-file_served ds bytes f = definitions_served f.defined (spelled_small f.spelled)
+file_served ds bytes f = definitions_served f.served.defined (spelled_small f.spelled)
