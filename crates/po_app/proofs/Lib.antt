@@ -1,3 +1,4 @@
+mod Completing
 mod Corners
 mod Each
 mod Lowers
@@ -7,3 +8,4 @@ mod Pairs
 mod Reached
 mod Sizes
 mod Small
+mod Soundness

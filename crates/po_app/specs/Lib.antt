@@ -1,6 +1,8 @@
 pub mod Lowering
 pub mod Predicates
 pub mod Obligations
+pub mod Meaning
+pub mod Sound
 pub mod ReportText
 pub mod Command
 pub mod Outcome

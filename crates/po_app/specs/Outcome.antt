@@ -54,3 +54,10 @@ Ends words held status before after = (text : List ℕ) × Answers words held st
 -- the text was written whole, or a write failed
 abbrev pub Told : Status → List ℕ → Status → Option (List ℕ) → Option (List ℕ) → Type 0
 Told status text answer before after = ((answer ≡ status) × Adds before after text) ⊎ ((answer ≡ WriteFault) × AddsPrefix before after text)
+
+-- a report was decided, or memory was wanting
+abbrev pub IsReportOrNoMemory : Status → Type 0
+IsReportOrNoMemory Clean = Unit {0}
+IsReportOrNoMemory Open = Unit {0}
+IsReportOrNoMemory NoMemory = Unit {0}
+IsReportOrNoMemory _ = ⊥

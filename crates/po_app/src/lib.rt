@@ -2,6 +2,7 @@
 #![tactic(auto)]
 
 mod discharge;
+mod laws;
 mod lowering;
 mod out;
 mod pred;
@@ -15,5 +16,6 @@ mod status;
 mod top;
 mod words;
 
+pub use laws::{report_is_sound, runs_go_on};
 pub use status::Status;
 pub use top::run;

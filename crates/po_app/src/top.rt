@@ -1,9 +1,17 @@
-ghost use Rattle.std.specs.Prelude.{ℕ, List as Sequence, ◌≡◌, ◌<◌, ◌≤◌, ◌^◌, ◌⊎◌, All, length, map, string_bytes, IfOk};
+ghost use Rattle.std.specs.Prelude.{ℕ, List as Sequence, ◌≡◌, ◌<◌, ◌≤◌, ◌^◌, ◌⊎◌, All, Some, length, map, string_bytes, IfOk};
 ghost use Rattle.po_io.specs.Count.{Rose};
+ghost use Rattle.po_straight.specs.declared.definition.Definition.{Definition as Tree};
+ghost use Rattle.po_straight.specs.Definitions.{IsFile};
+ghost use Rattle.po_ir.specs.declared.project.Project.{Project as ProjectOf};
+ghost use Rattle.po_app.specs.declared.report.Report.{Report as ReportOf};
+ghost use Rattle.po_app.specs.Lowering.{IsProject};
+ghost use Rattle.po_app.specs.Obligations.{IsReport};
+ghost use Rattle.po_app.specs.Sound.{Sound};
 ghost use Rattle.po_app.specs.Command.{IsCheck};
 ghost use Rattle.po_app.specs.Lowered.{IsCounted};
-ghost use Rattle.po_app.specs.Outcome.{named_text, status_of as status_of_report, IsReported, Decides, Answers, Ends, Told};
+ghost use Rattle.po_app.specs.Outcome.{named_text, status_of as status_of_report, IsReported, IsReportOrNoMemory, Decides, Answers, Ends, Told};
 
+use crate::laws::report_is_sound;
 use crate::lowering::project;
 use crate::out::Out;
 use crate::report::Report;
@@ -130,7 +138,15 @@ pub fn run<F: Files, S: Sink>(
     ensures read_fault { result ≡ Status.ReadFault → (name : Sequence ℕ) → IsCheck (map string_bytes words.now.items) name → Rose (F.faults files.old name) (F.faults files.new name) }
     ensures write_fault { result ≡ Status.WriteFault → Rose (S.faults out.old) (S.faults out.new) }
     ensures held { (other : Sequence ℕ) → F.held files.new other ≡ F.held files.old other }
+
+    // With words of the form, no fault and a file that is served, a report is written whole, or memory is wanting.
+    ensures complete { (name bytes : Sequence ℕ) (ds : Sequence Tree) → IsCheck (map string_bytes words.now.items) name → F.held files.old name ≡ Some bytes → length bytes ≤ 2 ^ 24 → IsFile ds bytes → (Rose (F.faults files.old name) (F.faults files.new name) → ⊥) → (Rose (S.faults out.old) (S.faults out.new) → ⊥) → IsReportOrNoMemory result }
+
+    // Whatever file of these definitions is reported on: in every run of one of its functions, from any int arguments
+    // and of any number of steps, the obligation that is violated first is listed as open.
+    ensures sound { (name bytes : Sequence ℕ) (ds : Sequence Tree) (p : ProjectOf) (r : ReportOf) → IsFile ds bytes → IsProject name ds p → IsReport p r → Sound p r }
 {
+    report_is_sound();
     match decide(alloc, words, files) {
         Ok(decision) => tell(&decision, out),
         Err(_) => Status::NoMemory,

@@ -1,5 +1,5 @@
 -- A word among words that are compared one after the other.
-use Rattle.std.proofs.Common.{◌≡◌, ℕ, ◌+◌, ◌<◌, ◌≤◌, List, [], ◌∷◌, length, get_or, map, arith, sym, ◌∙◌, Bool, true, false, eqb, below_more}
+use Rattle.std.proofs.Common.{◌≡◌, ℕ, ◌<◌, ◌≤◌, List, [], length, get_or, map, arith, sym, ◌∙◌, true, false}
 use Rattle.std.specs.Prelude.{Contains}
 use Rattle.std.specs.Str.{bytes_eq}
 use Rattle.std.proofs.lemmas.List.{length-map, get_or-map, get_or_default}
@@ -14,7 +14,7 @@ module _ {W : Type 0} (now : W → List ℕ) (words : List W) (word : List ℕ) 
   pub is_other : (i : ℕ) (d : W) → i < length words → bytes_eq (now (get_or words i d)) word ≡ false → get_or (map now words) i [] ≡ word → ⊥
   is_other i d in' differ same =
       let e : bytes_eq (now (get_or words i d)) word ≡ true =
-          (bytes_eq-Decides (now (get_or words i d)) word).1 (sym (get_or-map now words i d [] in') ∙ same) in cc
+      (bytes_eq-Decides (now (get_or words i d)) word).1 (sym (get_or-map now words i d [] in') ∙ same) in cc
 
   pub is_nowhere : (i : ℕ) → length words ≤ i → ((k : ℕ) → k < i → get_or (map now words) k [] ≡ word → ⊥) → Contains (map now words) word → ⊥
   is_nowhere i all none (k, in', same) =

@@ -1,6 +1,5 @@
 -- At the front of some signs stands at most one definition.
-use Rattle.std.proofs.Common.{◌≡◌, ℕ, ◌+◌, ◌-◌, ◌*◌, ◌<◌, ◌≤◌, ◌^◌, List, [], ◌∷◌, ◌++◌, length, drop, take, map, ap, sym, ◌∙◌, refl, subst, arith, append_assoc, length-append, length-drop}
-use Rattle.std.specs.List.{flat_map}
+use Rattle.std.proofs.Common.{◌≡◌, ℕ, ◌+◌, ◌-◌, ◌<◌, ◌≤◌, List, [], ◌∷◌, ◌++◌, length, drop, take, ap, sym, ◌∙◌, refl, subst, arith, append_assoc, length-append, length-drop}
 use Rattle.std.proofs.lemmas.List.{drop_at, drop-drop, take-append-drop, append_cancel_right, map-append, length-map}
 use Rattle.po_straight.specs.declared.lexeme.Sign.{Sign}
 use Rattle.po_straight.specs.declared.lexeme.Sign.TheVariants as s
@@ -9,11 +8,12 @@ use Rattle.po_straight.specs.declared.expression.Expression.{Expression}
 use Rattle.po_straight.specs.declared.definition.Definition.{Definition}
 use Rattle.po_straight.specs.Distinct.{AllDiffer}
 use Rattle.po_straight.specs.Expressions.{IsExpression}
-use Rattle.po_straight.specs.Definitions.{signs, parameter_signs, heading_signs, IsDefinition, register_steps, graph_size}
+use Rattle.po_straight.specs.Definitions.{signs, parameter_signs, heading_signs}
 use Rattle.po_straight.specs.Outline.{Leads, IsOpen, IsBody, Starts}
 use Rattle.po_straight.proofs.Splits.{split_same}
+use Rattle.po_straight.proofs.Listings.{commas}
 use Rattle.po_straight.proofs.Headers.{heading_same}
-use Rattle.po_straight.proofs.Bodies.{closed_by, all_open}
+use Rattle.po_straight.proofs.Bodies.{all_open, open_ends}
 use Rattle.po_straight.proofs.WholeBodies.{expression_same}
 
 -- two ends of a list that have the same length are the same
@@ -23,7 +23,7 @@ suffix_same a b m n e l =
     let p : length a ≡ length b = omega (arith, length-append a m, length-append b n, q) in
     sym (drop_at a m (length b) p) ∙ ap (λ v. drop (length b) v) e ∙ drop_at b n (length b) refl
 
-commas_long : (ps : List (List ℕ)) → length ps ≤ length (flat_map (λ q. s.Comma ∷ (s.Int ∷ (s.Name q ∷ []))) ps)
+commas_long : (ps : List (List ℕ)) → length ps ≤ length (commas ps)
 commas_long [] = omega arith
 commas_long (p ∷ ps) = let h = commas_long ps in omega arith
 
@@ -60,10 +60,12 @@ parts_of d xs left h =
     let w = h.defined in
     let middle : List Lexeme = record { sign = s.Return; line = d.line } ∷ (w.value ++ (w.tail ++ left)) in
     let whole : xs ≡ w.head ++ middle =
-        h.parts ∙ ap (λ v. v ++ left) w.parts ∙ append_assoc w.head (record { sign = s.Return; line = d.line } ∷ (w.value ++ w.tail)) left ∙
-        ap (λ v. w.head ++ (record { sign = s.Return; line = d.line } ∷ v)) (append_assoc w.value w.tail left) in
+    h.parts ∙ ap (λ v. v ++ left) w.parts ∙ append_assoc w.head (record { sign = s.Return; line = d.line } ∷ (w.value ++ w.tail)) left ∙
+    ap (λ v. w.head ++ (record { sign = s.Return; line = d.line } ∷ v)) (append_assoc w.value w.tail left) in
     record {
-      head = w.head; middle = middle; parts = whole;
+      head = w.head;
+      middle = middle;
+      parts = whole;
       heading = ap (λ v. signs v) whole ∙ map-append (λ x. x.sign) w.head middle ∙ ap (λ v. v ++ signs middle) w.heading;
       body = record { range = w.value; tail = w.tail; parts = refl; valued = w.valued; ending = w.ending; small = w.small };
       distinct = w.distinct;
@@ -76,23 +78,19 @@ starts_with d xs at end left low h differ b =
     let head : List Lexeme = take (end - at) (drop at xs) in
     let e : at + (end - at) ≡ end = omega arith in
     let split : drop at xs ≡ head ++ drop end xs =
-        sym (take-append-drop (end - at) (drop at xs)) ∙ ap (λ v. head ++ v) (drop-drop (end - at) at xs ∙ ap (λ n. drop n xs) e) in
+    sym (take-append-drop (end - at) (drop at xs)) ∙ ap (λ v. head ++ v) (drop-drop (end - at) at xs ∙ ap (λ n. drop n xs) e) in
     let heading : signs head ≡ heading_signs d.name d.parameters =
-        append_cancel_right (signs head) (heading_signs d.name d.parameters) (signs (drop end xs))
-            (sym (map-append (λ x. x.sign) head (drop end xs)) ∙ ap (λ v. signs v) (sym split) ∙ h) in
+    append_cancel_right (signs head) (heading_signs d.name d.parameters) (signs (drop end xs))
+    (sym (map-append (λ x. x.sign) head (drop end xs)) ∙ ap (λ v. signs v) (sym split) ∙ h) in
     let part : List Lexeme = head ++ (record { sign = s.Return; line = d.line } ∷ (b.range ++ b.tail)) in
     let whole : drop at xs ≡ part ++ left =
-        split ∙ ap (λ v. head ++ v) b.parts ∙ ap (λ v. head ++ (record { sign = s.Return; line = d.line } ∷ v)) (sym (append_assoc b.range b.tail left)) ∙
-        sym (append_assoc head (record { sign = s.Return; line = d.line } ∷ (b.range ++ b.tail)) left) in
+    split ∙ ap (λ v. head ++ v) b.parts ∙ ap (λ v. head ++ (record { sign = s.Return; line = d.line } ∷ v)) (sym (append_assoc b.range b.tail left)) ∙
+    sym (append_assoc head (record { sign = s.Return; line = d.line } ∷ (b.range ++ b.tail)) left) in
     record {
-      part = part; parts = whole;
+      part = part;
+      parts = whole;
       defined = record { head = head; value = b.range; tail = b.tail; parts = refl; heading = heading; valued = b.valued; ending = b.ending; distinct = differ; small = b.small };
     }
-
-open_ends : (tail left : List Lexeme) → signs tail ≡ s.Semicolon ∷ (s.CloseBrace ∷ []) → (y : Lexeme) (ys : List Lexeme) → tail ++ left ≡ y ∷ ys → IsOpen y → ⊥
-open_ends tail left e y ys q o =
-    let p : y.sign ∷ signs ys ≡ s.Semicolon ∷ (s.CloseBrace ∷ signs left) = sym (ap (λ v. signs v) q) ∙ closed_by tail left e in
-    let r : y.sign ≡ s.Semicolon = cc in o r
 
 two_long : (tail : List Lexeme) → signs tail ≡ s.Semicolon ∷ (s.CloseBrace ∷ []) → length tail ≡ 2
 two_long tail e = sym (length-map tail (λ x. x.sign)) ∙ ap length e
@@ -108,7 +106,7 @@ body_same ps line other x y xs left rest differ h g =
     let first : line ≡ other = ap first_line q in
     let behind : h.range ++ (h.tail ++ left) ≡ g.range ++ (g.tail ++ rest) = cc in
     let p = split_same IsOpen h.range g.range (h.tail ++ left) (g.tail ++ rest) (all_open h.valued.printed) (all_open g.valued.printed)
-        (open_ends h.tail left h.ending) (open_ends g.tail rest g.ending) behind in
+    (open_ends h.tail left h.ending) (open_ends g.tail rest g.ending) behind in
     let range : h.range ≡ g.range = p.0 in
     let v : IsExpression ps x h.range = h.valued in
     let l : length h.tail ≡ length g.tail = two_long h.tail h.ending ∙ sym (two_long g.tail g.ending) in
@@ -127,7 +125,7 @@ definition_same d e n p l v =
 middle_same : (xs : List Lexeme) (head middle behind : List Lexeme) (front : List Lexeme) → xs ≡ head ++ middle → xs ≡ front ++ behind → signs middle ≡ signs behind → middle ≡ behind
 middle_same xs head middle behind front e f same =
     let l : length middle ≡ length behind =
-        sym (length-map middle (λ x. x.sign)) ∙ ap length same ∙ length-map behind (λ x. x.sign) in
+    sym (length-map middle (λ x. x.sign)) ∙ ap length same ∙ length-map behind (λ x. x.sign) in
     suffix_same head front middle behind (sym e ∙ f) l
 
 pub starts_same : (d e : Definition) (xs left rest : List Lexeme) → Starts d xs left → Starts e xs rest → (d ≡ e) × (left ≡ rest)
@@ -139,7 +137,7 @@ starts_same d e xs left rest h g =
     let middle : p.middle ≡ q.middle = middle_same xs p.head p.middle q.middle q.head p.parts q.parts same.2 in
     let own : IsBody d.parameters d.line d.value p.middle left = p.body in
     let moved : IsBody e.parameters d.line d.value q.middle left =
-        subst (λ v. IsBody v d.line d.value q.middle left) names (subst (λ v. IsBody d.parameters d.line d.value v left) middle own) in
+    subst (λ v. IsBody v d.line d.value q.middle left) names (subst (λ v. IsBody d.parameters d.line d.value v left) middle own) in
     let b = body_same e.parameters d.line e.line d.value e.value q.middle left rest q.distinct moved q.body in
     (definition_same d e same.0 names b.0 b.1, b.2)
 
@@ -156,7 +154,7 @@ no_body name ps xs at end low h none d left g =
     let same = heading_same d.name name d.parameters ps (signs p.middle) (signs (drop end xs)) (sym p.heading ∙ h) in
     let e : at + (end - at) ≡ end = omega arith in
     let split : drop at xs ≡ take (end - at) (drop at xs) ++ drop end xs =
-        sym (take-append-drop (end - at) (drop at xs)) ∙ ap (λ v. take (end - at) (drop at xs) ++ v) (drop-drop (end - at) at xs ∙ ap (λ n. drop n xs) e) in
+    sym (take-append-drop (end - at) (drop at xs)) ∙ ap (λ v. take (end - at) (drop at xs) ++ v) (drop-drop (end - at) at xs ∙ ap (λ n. drop n xs) e) in
     let middle : p.middle ≡ drop end xs = middle_same (drop at xs) p.head p.middle (drop end xs) (take (end - at) (drop at xs)) p.parts split same.2 in
     let own : IsBody d.parameters d.line d.value p.middle left = p.body in
     none d.line d.value left (subst (λ v. IsBody v d.line d.value (drop end xs) left) same.1 (subst (λ v. IsBody d.parameters d.line d.value v left) middle own))

@@ -5,7 +5,7 @@ use Rattle.std.proofs.lemmas.List.Sums.{sum_by-cons}
 use Rattle.std.proofs.lemmas.List.Elements.{All-head, All-tail, All-cons, All-nil}
 use Rattle.po_straight.specs.declared.lexeme.Sign.{Sign}
 use Rattle.po_straight.specs.declared.lexeme.Lexeme.{Lexeme}
-use Rattle.po_straight.specs.Spelling.{IsSpelling, IsWord, IsWordByte, IsBlank, newlines, Spells, nothing, sign, BeginsWithWordByte}
+use Rattle.po_straight.specs.Spelling.{IsWordByte, IsBlank, newlines, Spells, nothing, sign}
 use Rattle.po_straight.specs.Lexing.{Stands}
 use Rattle.po_straight.proofs.Shapes.{Shape, word, mark, shape, word_not_blank}
 use Rattle.po_straight.proofs.OneSign.{front_same}
@@ -51,12 +51,12 @@ after_blank c cs line xs bytes blank (sign l (b ∷ bs) text rest x ys all spell
 pub before_blank : (c : ℕ) (cs : List ℕ) (line : ℕ) (xs : List Lexeme) → IsBlank c → Spells (line + newlines (c ∷ [])) xs cs → Spells line xs (c ∷ cs)
 before_blank c cs line xs blank h = before _ xs cs h refl
   where
-  before : (n : ℕ) (ys : List Lexeme) (bytes : List ℕ) → Spells n ys bytes → n ≡ after line c → Spells line ys (c ∷ bytes)
-  before n ys bytes (nothing l blanks all) e = nothing line (c ∷ blanks) (All-cons IsBlank c blanks blank all)
-  before n ys bytes (sign l blanks text rest x zs all spelled ends more) e =
-      let q : l + newlines blanks ≡ line + newlines (c ∷ blanks) = rw e (newlines-cons line c blanks) in
-      let here = sign line (c ∷ blanks) text rest x zs (All-cons IsBlank c blanks blank all) spelled ends (subst (λ k. Spells k zs rest) q more) in
-      rw q here
+    before : (n : ℕ) (ys : List Lexeme) (bytes : List ℕ) → Spells n ys bytes → n ≡ after line c → Spells line ys (c ∷ bytes)
+    before n ys bytes (nothing l blanks all) e = nothing line (c ∷ blanks) (All-cons IsBlank c blanks blank all)
+    before n ys bytes (sign l blanks text rest x zs all spelled ends more) e =
+        let q : l + newlines blanks ≡ line + newlines (c ∷ blanks) = rw e (newlines-cons line c blanks) in
+        let here = sign line (c ∷ blanks) text rest x zs (All-cons IsBlank c blanks blank all) spelled ends (subst (λ k. Spells k zs rest) q more) in
+        rw q here
 
 pub before_sign : (x : Sign) (bytes left : List ℕ) (line : ℕ) (xs : List Lexeme) → Stands x bytes left → Spells line xs left →
     Spells line (record { sign = x; line = line } ∷ xs) bytes
@@ -74,9 +74,11 @@ pub after_sign : (x : Sign) (bytes left : List ℕ) (line : ℕ) (xs : List Lexe
 after_sign x bytes left line xs h (nothing l blanks all) = absurd (not_blanks x bytes left h all)
 after_sign x bytes left line xs h (sign l [] text rest y ys all spelled ends more) =
     let same = front_same x y (text ++ rest) left rest h (record { text = text; parts = refl; spelled = spelled; ends = ends }) in
-    let z : line + newlines [] ≡ line = add-zero line in
-    (ys, ap (λ n. record { sign = y; line = n } ∷ ys) z ∙ ap (λ v. record { sign = v; line = line } ∷ ys) (sym same.0),
-     rw same.1 (rw z at more))
+    let z : line + newlines [] ≡ line = add-zero line in (
+      ys,
+      ap (λ n. record { sign = y; line = n } ∷ ys) z ∙ ap (λ v. record { sign = v; line = line } ∷ ys) (sym same.0),
+      rw same.1 (rw z at more),
+    )
 after_sign x bytes left line xs h (sign l (b ∷ bs) text rest y ys all spelled ends more) =
     absurd (no_blank_front x h.text (shape x h.text h.spelled) b (bs ++ (text ++ rest)) left (sym h.parts) (All-head IsBlank b bs all))
 
@@ -103,11 +105,11 @@ only_blanks bytes line ys all (sign l [] text rest x xs none spelled ends more) 
 only_blanks bytes line ys all (sign l (b ∷ bs) text rest x xs none spelled ends more) =
     let tail : All IsBlank (bs ++ (text ++ rest)) = All-tail IsBlank b (bs ++ (text ++ rest)) all in
     absurd (not_blanks x (text ++ rest) rest (record { text = text; parts = refl; spelled = spelled; ends = ends })
-        (blanks_behind bs (text ++ rest) tail))
+    (blanks_behind bs (text ++ rest) tail))
   where
-  blanks_behind : (vs ws : List ℕ) → All IsBlank (vs ++ ws) → All IsBlank ws
-  blanks_behind [] ws h = h
-  blanks_behind (v ∷ vs) ws h = blanks_behind vs ws (All-tail IsBlank v (vs ++ ws) h)
+    blanks_behind : (vs ws : List ℕ) → All IsBlank (vs ++ ws) → All IsBlank ws
+    blanks_behind [] ws h = h
+    blanks_behind (v ∷ vs) ws h = blanks_behind vs ws (All-tail IsBlank v (vs ++ ws) h)
 
 pub one_spelling : (line : ℕ) (xs ys : List Lexeme) (bytes : List ℕ) → Spells line xs bytes → Spells line ys bytes → xs ≡ ys
 one_spelling line xs ys bytes (nothing l blanks all) other = sym (only_blanks blanks line ys all other)

@@ -1,15 +1,11 @@
 -- A heading is read in one way.
-use Rattle.std.proofs.Common.{◌≡◌, ℕ, suc, zero, ◌+◌, ◌<◌, ◌≤◌, List, [], ◌∷◌, ◌++◌, length, drop, map, ap, sym, ◌∙◌, refl, arith, append_assoc}
-use Rattle.std.specs.List.{flat_map}
+use Rattle.std.proofs.Common.{◌≡◌, ℕ, ◌+◌, List, [], ◌∷◌, ◌++◌, drop, ap, sym, ◌∙◌, refl, arith, append_assoc}
 use Rattle.po_straight.specs.declared.lexeme.Sign.{Sign}
 use Rattle.po_straight.specs.declared.lexeme.Sign.TheVariants as s
 use Rattle.po_straight.specs.declared.lexeme.Lexeme.{Lexeme}
 use Rattle.po_straight.specs.Definitions.{signs, parameter_signs, heading_signs}
 use Rattle.po_straight.specs.Outline.{Begins, Leads}
-use Rattle.po_straight.proofs.Listings.{begins, begins_not}
-
-abbrev commas : List (List ℕ) → List Sign
-commas ps = flat_map (λ q. s.Comma ∷ (s.Int ∷ (s.Name q ∷ []))) ps
+use Rattle.po_straight.proofs.Listings.{begins, begins_not, commas}
 
 abbrev pub NoComma : List Sign → Type 0
 NoComma ts = (left : List Sign) → ts ≡ s.Comma ∷ left → ⊥
@@ -80,7 +76,7 @@ module _ (xs : List Lexeme) (at : ℕ) (own : List ℕ) (front : Leads (s.Int �
       signs (drop end xs) ≡ s.Close ∷ (s.OpenBrace ∷ left)
   behind_parameters name ps qs end left open_here h last e =
       (parameters_same qs ps (signs (drop end xs)) (s.Close ∷ (s.OpenBrace ∷ left)) (λ l q. begins_not s.Comma (drop end xs) l last q)
-          (close_no_comma (s.OpenBrace ∷ left)) (sym h ∙ behind_open name ps left open_here e)).1
+      (close_no_comma (s.OpenBrace ∷ left)) (sym h ∙ behind_open name ps left open_here e)).1
 
   -- the whole heading
   pub heading_whole : (ps : List (List ℕ)) (end : ℕ) → Begins s.Open (drop (at + 2) xs) → Leads (parameter_signs ps) (drop (at + 3) xs) (drop end xs) →

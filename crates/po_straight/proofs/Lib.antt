@@ -4,10 +4,10 @@ mod Among
 mod Splits
 mod Shapes
 mod OneSign
-mod Following
-mod Fronts
 mod Written
 mod Nowhere
+mod Following
+mod Fronts
 mod Placing
 pub mod Heights
 pub mod Operators

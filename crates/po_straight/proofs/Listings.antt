@@ -1,14 +1,14 @@
 -- Signs of parameters and headings, and how they are read from the front.
-use Rattle.std.proofs.Common.{◌≡◌, ℕ, suc, zero, ◌+◌, ◌-◌, ◌<◌, ◌≤◌, List, [], ◌∷◌, ◌++◌, length, drop, map, ap, sym, ◌∙◌, refl, arith, append_assoc}
+use Rattle.std.proofs.Common.{◌≡◌, ℕ, suc, zero, ◌+◌, ◌<◌, ◌≤◌, List, [], ◌∷◌, ◌++◌, length, drop, ap, sym, ◌∙◌, refl, arith}
 use Rattle.std.specs.Prelude.{Contains}
 use Rattle.std.specs.List.{flat_map}
 use Rattle.po_straight.specs.declared.lexeme.Sign.{Sign}
 use Rattle.po_straight.specs.declared.lexeme.Sign.TheVariants as s
 use Rattle.po_straight.specs.declared.lexeme.Lexeme.{Lexeme}
 use Rattle.po_straight.specs.Distinct.{AllDiffer}
-use Rattle.po_straight.specs.Definitions.{signs, parameter_signs, heading_signs}
+use Rattle.po_straight.specs.Definitions.{signs, parameter_signs}
 use Rattle.po_straight.specs.Outline.{Begins, Leads, with_commas}
-use Rattle.po_straight.proofs.Placing.{differ_push, differ_twice}
+use Rattle.po_straight.proofs.Placing.{differ_twice}
 
 pub drop_next : {X : Type 0} (xs : List X) (at : ℕ) (y : X) (ys : List X) → drop at xs ≡ y ∷ ys → (ys ≡ drop (at + 1) xs) × (at < length xs)
 drop_next [] zero y ys e = absurd (cc)
@@ -24,21 +24,19 @@ drop_next {X} (x ∷ xs) (suc at) y ys e =
 pub begins : (x : Sign) (xs : List Lexeme) (at : ℕ) → Begins x (drop at xs) → Leads (x ∷ []) (drop at xs) (drop (at + 1) xs) × (at < length xs)
 begins x xs at h = first (drop at xs) refl h
   where
-  first : (ys : List Lexeme) → drop at xs ≡ ys → Begins x ys → Leads (x ∷ []) ys (drop (at + 1) xs) × (at < length xs)
-  first [] e b = elim b [ ]
-  first (y ∷ ys) e b =
-      let r = drop_next xs at y ys e in
-      (ap (λ v. v ∷ signs ys) b ∙ ap (λ v. x ∷ signs v) r.0, r.1)
+    first : (ys : List Lexeme) → drop at xs ≡ ys → Begins x ys → Leads (x ∷ []) ys (drop (at + 1) xs) × (at < length xs)
+    first [] e b = elim b [ ]
+    first (y ∷ ys) e b =
+        let r = drop_next xs at y ys e in
+        (ap (λ v. v ∷ signs ys) b ∙ ap (λ v. x ∷ signs v) r.0, r.1)
 
 -- and one that doesn't
 pub begins_not : (x : Sign) (ys : List Lexeme) (left : List Sign) → (Begins x ys → ⊥) → signs ys ≡ x ∷ left → ⊥
 begins_not x [] left h e = cc
 begins_not x (y ∷ ys) left h e = let q : y.sign ≡ x = cc in h q
 
-pub leads_then : (front more : List Sign) (xs ys zs : List Lexeme) → Leads front xs ys → Leads more ys zs → Leads (front ++ more) xs zs
-leads_then front more xs ys zs h g = h ∙ ap (λ v. front ++ v) g ∙ sym (append_assoc front more (signs zs))
-
-abbrev commas : List (List ℕ) → List Sign
+-- a comma and a parameter, for each
+abbrev pub commas : List (List ℕ) → List Sign
 commas ps = flat_map (λ q. s.Comma ∷ (s.Int ∷ (s.Name q ∷ []))) ps
 
 commas_last : (ps : List (List ℕ)) (q : List ℕ) (l : List Sign) → s.Comma ∷ (with_commas ps ++ (s.Int ∷ (s.Name q ∷ l))) ≡ commas (ps ++ q ∷ []) ++ l

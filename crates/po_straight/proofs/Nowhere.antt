@@ -1,16 +1,14 @@
 -- Where no sign stands.
-use Rattle.std.proofs.Common.{◌≡◌, ℕ, ◌+◌, ◌-◌, ◌<◌, ◌≤◌, List, [], ◌∷◌, ◌++◌, length, get_or, drop, take, arith, ap, sym, ◌∙◌, refl}
+use Rattle.std.proofs.Common.{◌≡◌, ℕ, ◌+◌, ◌-◌, ◌<◌, ◌≤◌, List, [], ◌∷◌, ◌++◌, length, get_or, drop, take, arith, ap, sym, ◌∙◌}
 use Rattle.std.specs.Prelude.{All}
 use Rattle.std.proofs.lemmas.List.{drop_more, drop-drop, take-append-drop}
 use Rattle.std.proofs.lemmas.List.Elements.{All-head}
 use Rattle.po_straight.specs.declared.lexeme.Sign.{Sign}
-use Rattle.po_straight.specs.Spelling.{IsSpelling, IsWord, IsWordByte, BeginsWithWordByte}
+use Rattle.po_straight.specs.Spelling.{IsSpelling, IsWordByte, BeginsWithWordByte}
 use Rattle.po_straight.specs.Lexing.{Stands}
 use Rattle.po_straight.proofs.Splits.{split_same}
-use Rattle.po_straight.proofs.Shapes.{Shape, word, mark, shape}
-
-ends : (left : List ℕ) → (BeginsWithWordByte left → ⊥) → (y : ℕ) (ys : List ℕ) → left ≡ y ∷ ys → IsWordByte y → ⊥
-ends left h y ys e w = h (rw e w)
+use Rattle.po_straight.proofs.OneSign.{ends}
+use Rattle.po_straight.proofs.Shapes.{word, mark, shape}
 
 pub no_word_stands : (bytes : List ℕ) (at end : ℕ) → at < length bytes → at ≤ end → end ≤ length bytes → IsWordByte (get_or bytes at 0) →
     All IsWordByte (take (end - at) (drop at bytes)) → (BeginsWithWordByte (drop end bytes) → ⊥) →

@@ -1,5 +1,5 @@
 -- The digits of a decimal constant.
-use Rattle.std.proofs.Common.{◌≡◌, ℕ, ◌+◌, ◌-◌, ◌*◌, ◌/◌, ◌%◌, ◌^◌, ◌<◌, ◌≤◌, List, [], ◌∷◌, ◌++◌, length, get_or, take, drop, arith, ap, sym, ◌∙◌, lit<, lit≤, inl, inr, zero, suc, refl, Bool, true, false, eqb}
+use Rattle.std.proofs.Common.{◌≡◌, ℕ, ◌+◌, ◌*◌, ◌/◌, ◌%◌, ◌^◌, ◌<◌, ◌≤◌, List, [], ◌∷◌, ◌++◌, length, get_or, take, arith, ap, sym, ◌∙◌, zero, suc, true, false, eqb}
 use Rattle.std.specs.Prelude.{All, decimal}
 use Rattle.std.proofs.Math.Pow.{pow_mono}
 use Rattle.std.proofs.lemmas.Nat.{pow-add}
@@ -46,7 +46,7 @@ next word at value d in' some small digit e before =
     let n : (10 * value + d) / 10 ≡ value = omega arith in
     let r : (10 * value + d) % 10 ≡ d = omega arith in
     let s : decimal (10 * value + d) ≡ decimal value ++ ((48 + d) ∷ []) =
-        (let t = decimal_step (10 * value + d) (omega arith) (omega arith) in rw (n, r) at t) in
+    (let t = decimal_step (10 * value + d) (omega arith) (omega arith) in rw (n, r) at t) in
     let m : take (at + 1) word ≡ take at word ++ (get_or word at 0 ∷ []) = take_more word at 0 in' in
     m ∙ (rw (before, e) (sym s))
 

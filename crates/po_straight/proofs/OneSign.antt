@@ -1,5 +1,5 @@
 -- At the front of some bytes stands at most one sign.
-use Rattle.std.proofs.Common.{◌≡◌, ℕ, ◌+◌, ◌<◌, ◌≤◌, ◌^◌, List, [], ◌∷◌, ◌++◌, length, get_or, arith, ap, sym, ◌∙◌, subst, refl, inl, inr, ◌⊎◌, Bool, true, false, cond, eqb, leb, ◌&&◌, ◌||◌, lit<}
+use Rattle.std.proofs.Common.{◌≡◌, ℕ, ◌<◌, ◌^◌, List, [], ◌∷◌, ◌++◌, length, arith, ap, sym, ◌∙◌, refl, inl, inr, Bool, true, false, cond, eqb, leb, ◌&&◌, ◌||◌, lit<}
 use Rattle.std.specs.Prelude.{All, codes, decimal, Contains}
 use Rattle.std.specs.Str.{bytes_eq}
 use Rattle.std.specs.Str.Parse.{digits_value}
@@ -9,11 +9,11 @@ use Rattle.std.proofs.lemmas.Bool.Decides.{nat_tests}
 use Rattle.std.proofs.lemmas.Fmt.{decimal_nonempty, decimal_is_IsNumeral}
 use Rattle.po_straight.specs.declared.lexeme.Sign.{Sign}
 use Rattle.po_straight.specs.declared.lexeme.Sign.TheVariants as s
-use Rattle.po_straight.specs.Spelling.{IsSpelling, IsWord, IsWordByte, IsDigit, IsNondigit, IsBlank, IsIdentifier, IsName, keywords, BeginsWithWordByte}
+use Rattle.po_straight.specs.Spelling.{IsSpelling, IsWordByte, IsDigit, IsNondigit, keywords, BeginsWithWordByte}
 use Rattle.po_straight.specs.Lexing.{Stands}
 use Rattle.po_straight.proofs.Numerals.{all_digits}
 use Rattle.po_straight.proofs.Splits.{split_same}
-use Rattle.po_straight.proofs.Shapes.{Shape, word, mark, shape}
+use Rattle.po_straight.proofs.Shapes.{word, mark, shape}
 
 -- the sign that is spelled by a text, where one is
 abbrev digit_test : ℕ → Bool
@@ -89,7 +89,8 @@ sign_is s.Semicolon text e = rw e refl
 pub spelling_same : (x y : Sign) (text : List ℕ) → IsSpelling x text → IsSpelling y text → x ≡ y
 spelling_same x y text h g = sym (sign_is x text h) ∙ sign_is y text g
 
-ends : (left : List ℕ) → (BeginsWithWordByte left → ⊥) → (y : ℕ) (ys : List ℕ) → left ≡ y ∷ ys → IsWordByte y → ⊥
+-- a front of word bytes ends where no word byte follows
+pub ends : (left : List ℕ) → (BeginsWithWordByte left → ⊥) → (y : ℕ) (ys : List ℕ) → left ≡ y ∷ ys → IsWordByte y → ⊥
 ends left h y ys e w = h (rw e w)
 
 -- a word and a mark begin with other bytes
@@ -106,17 +107,17 @@ module _ (x y : Sign) (bytes left rest : List ℕ) (h : Stands x bytes left) (g 
       let q : h.text ++ left ≡ g.text ++ rest = sym h.parts ∙ g.parts in
       elim (shape x h.text h.spelled) as (λ _. (x ≡ y) × (left ≡ rest)) [
         | word wx ax nx ↦ elim (shape y g.text g.spelled) as (λ _. (x ≡ y) × (left ≡ rest)) [
-            | word wy ay ny ↦
-                (let p = split_same IsWordByte h.text g.text left rest ax ay (ends left (h.ends wx)) (ends rest (g.ends wy)) q in
-                (same_text p.0, p.1))
-            | mark d my ty ny by ↦ absurd (apart h.text left rest d ax nx ny (q ∙ ap (λ v. v ++ rest) ty))
-          ]
+          | word wy ay ny ↦
+              (let p = split_same IsWordByte h.text g.text left rest ax ay (ends left (h.ends wx)) (ends rest (g.ends wy)) q in
+              (same_text p.0, p.1))
+          | mark d my ty ny by ↦ absurd (apart h.text left rest d ax nx ny (q ∙ ap (λ v. v ++ rest) ty))
+        ]
         | mark c mx tx nx bx ↦ elim (shape y g.text g.spelled) as (λ _. (x ≡ y) × (left ≡ rest)) [
-            | word wy ay ny ↦ absurd (apart g.text rest left c ay ny nx (sym q ∙ ap (λ v. v ++ left) tx))
-            | mark d my ty ny by ↦
-                (let r : c ∷ left ≡ d ∷ rest = sym (ap (λ v. v ++ left) tx) ∙ q ∙ ap (λ v. v ++ rest) ty in
-                let e : c ≡ d = cc in
-                let l : left ≡ rest = cc in
-                (same_text (tx ∙ ap (λ v. v ∷ []) e ∙ sym ty), l))
-          ]
+          | word wy ay ny ↦ absurd (apart g.text rest left c ay ny nx (sym q ∙ ap (λ v. v ++ left) tx))
+          | mark d my ty ny by ↦
+              (let r : c ∷ left ≡ d ∷ rest = sym (ap (λ v. v ++ left) tx) ∙ q ∙ ap (λ v. v ++ rest) ty in
+              let e : c ≡ d = cc in
+              let l : left ≡ rest = cc in
+              (same_text (tx ∙ ap (λ v. v ∷ []) e ∙ sym ty), l))
+        ]
       ]

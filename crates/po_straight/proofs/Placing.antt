@@ -1,12 +1,12 @@
 -- One more name among names that have their places.
-use Rattle.std.proofs.Common.{◌≡◌, ℕ, suc, zero, ◌+◌, ◌<◌, List, [], ◌∷◌, ◌++◌, length, ap, sym, ◌∙◌, refl, Bool, true, false, cond, inl, inr, arith}
+use Rattle.std.proofs.Common.{◌≡◌, ℕ, suc, zero, List, [], ◌∷◌, ◌++◌, length, ap, sym, ◌∙◌, refl, true, false, cond, inl, inr, arith}
 use Rattle.std.specs.Prelude.{Option, Some, None, MatchOption, Contains, slice_get}
 use Rattle.std.specs.Str.{bytes_eq}
 use Rattle.std.specs.Ordering.{nat_cmp, is_eq}
 use Rattle.std.specs.Cmp.Lexicographic.{slice_cmp}
 use Rattle.std.proofs.lemmas.Map.Text.{is_eq-slice_cmp}
 use Rattle.std.proofs.lemmas.Slice.Eq.{bytes_eq-Decides}
-use Rattle.std.proofs.lemmas.List.Elements.{Contains-push_cases, Contains-append_left, Contains-append_right}
+use Rattle.std.proofs.lemmas.List.Elements.{Contains-push_cases, Contains-append_right}
 use Rattle.std.proofs.lemmas.List.{same_from_push}
 use Rattle.po_straight.specs.Distinct.{AllDiffer}
 use Rattle.po_straight.specs.Named.{ArePlaced}
@@ -22,16 +22,10 @@ get-front (y ∷ xs) ys (suc n) x e = get-front xs ys n x e
 
 pub differ_push : (xs : List (List ℕ)) (x : List ℕ) → AllDiffer xs → (Contains xs x → ⊥) → AllDiffer (xs ++ x ∷ [])
 differ_push [] x d new = ((λ h. omega (arith, h.1)), tt)
-differ_push (y ∷ ys) x d new =
-    ((λ h. elim (Contains-push_cases ys x y h) as (λ _. ⊥) [ inl k ↦ d.0 k | inr e ↦ new (0, omega arith, sym e) ]),
-     differ_push ys x d.1 (λ h. new (suc h.0, omega (arith, h.1), h.2)))
-
-pub differ_front : (xs ys : List (List ℕ)) → AllDiffer (xs ++ ys) → AllDiffer xs
-differ_front [] ys d = tt
-differ_front (x ∷ xs) ys d = ((λ h. d.0 (contains_front xs ys x h)), differ_front xs ys d.1)
-  where
-  contains_front : (xs ys : List (List ℕ)) (x : List ℕ) → Contains xs x → Contains (xs ++ ys) x
-  contains_front xs ys x h = Contains-append_left xs ys x h
+differ_push (y ∷ ys) x d new = (
+  (λ h. elim (Contains-push_cases ys x y h) as (λ _. ⊥) [ inl k ↦ d.0 k | inr e ↦ new (0, omega arith, sym e) ]),
+  differ_push ys x d.1 (λ h. new (suc h.0, omega (arith, h.1), h.2)),
+)
 
 -- a name that stands before can't stand again
 pub differ_twice : (xs ys : List (List ℕ)) (x : List ℕ) → Contains xs x → AllDiffer (xs ++ (x ∷ ys)) → ⊥
@@ -53,11 +47,11 @@ module _ (names grown : List (List ℕ)) (name : List ℕ) (longer : grown ≡ n
   placed_push old new at e fresh updated h = record {
     differ = rw longer (differ_push names name h.differ fresh);
     placed = λ q.
-      let u : new q ≡ cond (bytes_eq name q) (Some at) (old q) = updated q ∙ ap (λ b. cond b (Some at) (old q)) (is_eq-slice_cmp name q) in
-      rw u (elim (bytes_eq name q) as (λ b. bytes_eq name q ≡ b → MatchOption (cond b (Some at) (old q)) (Contains grown q → ⊥) (λ n. slice_get grown n ≡ Some q)) [
-        | true ↦ (λ t. here q at e ((bytes_eq-Decides name q).0 t))
-        | false ↦ (λ t. still q (λ same. absurd {A = ⊥} (cc ((bytes_eq-Decides name q).1 same))) (old q) (h.placed q))
-      ] refl);
+        let u : new q ≡ cond (bytes_eq name q) (Some at) (old q) = updated q ∙ ap (λ b. cond b (Some at) (old q)) (is_eq-slice_cmp name q) in
+        rw u (elim (bytes_eq name q) as (λ b. bytes_eq name q ≡ b → MatchOption (cond b (Some at) (old q)) (Contains grown q → ⊥) (λ n. slice_get grown n ≡ Some q)) [
+          | true ↦ (λ t. here q at e ((bytes_eq-Decides name q).0 t))
+          | false ↦ (λ t. still q (λ same. absurd {A = ⊥} (cc ((bytes_eq-Decides name q).1 same))) (old q) (h.placed q))
+        ] refl);
   }
 
 -- a list is as it was when the item that was pushed last is taken away

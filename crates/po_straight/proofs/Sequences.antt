@@ -3,16 +3,13 @@ use Rattle.std.proofs.Common.{◌≡◌, ℕ, ◌+◌, ◌<◌, ◌≤◌, ◌^�
 use Rattle.std.specs.Prelude.{sum_by, Contains}
 use Rattle.std.proofs.lemmas.List.{drop_all, map-append}
 use Rattle.std.proofs.lemmas.List.Sums.{sum_by-append, sum_by-cons, sum_by_push}
-use Rattle.po_straight.specs.declared.lexeme.Sign.TheVariants as s
 use Rattle.po_straight.specs.declared.lexeme.Lexeme.{Lexeme}
 use Rattle.po_straight.specs.declared.definition.Definition.{Definition}
-use Rattle.po_straight.specs.Distinct.{AllDiffer}
-use Rattle.po_straight.specs.Spelling.{Spells}
 use Rattle.po_straight.specs.Definitions.{IsDefinition, AreDefinitions, none, more, graph_size, AreServed, IsFile}
 use Rattle.po_straight.specs.Outline.{Starts, AreFront}
 use Rattle.po_straight.proofs.Placing.{differ_twice}
 use Rattle.po_straight.proofs.Following.{one_spelling}
-use Rattle.po_straight.proofs.Beginnings.{parts_of, starts_same, suffix_same}
+use Rattle.po_straight.proofs.Beginnings.{parts_of, starts_same}
 
 -- definitions and signs take as much room as they have
 some_signs : (d : Definition) (xs left : List Lexeme) → Starts d xs left → xs ≡ [] → ⊥
@@ -95,21 +92,18 @@ module _ (front : List Definition) (d : Definition) (xs : List Lexeme) (at : ℕ
       let n = goes_on es g.defined in
       let small : sum_by graph_size es ≤ 2 ^ 24 = g.small in
       let l : sum_by graph_size es ≡ sum_by graph_size front + (graph_size d + sum_by graph_size n.0) =
-          ap (λ v. sum_by graph_size v) n.1 ∙ sum_by-append graph_size front (d ∷ n.0) ∙ ap (λ v. sum_by graph_size front + v) (sum_by-cons graph_size d n.0) in
+      ap (λ v. sum_by graph_size v) n.1 ∙ sum_by-append graph_size front (d ∷ n.0) ∙ ap (λ v. sum_by graph_size front + v) (sum_by-cons graph_size d n.0) in
       more_than (sum_by graph_size front) (graph_size d) (sum_by graph_size n.0) (sum_by graph_size es) large small l
     where
-    more_than : (a b c t : ℕ) → 2 ^ 24 < a + b → t ≤ 2 ^ 24 → t ≡ a + (b + c) → ⊥
-    more_than a b c t large small l = omega arith
+      more_than : (a b c t : ℕ) → 2 ^ 24 < a + b → t ≤ 2 ^ 24 → t ≡ a + (b + c) → ⊥
+      more_than a b c t large small l = omega arith
 
   pub twice : Contains (map (λ e. e.name) front) d.name → (es : List Definition) → AreServed es xs → ⊥
   twice there es g =
       let n = goes_on es g.defined in
       let l : map (λ e. e.name) es ≡ map (λ e. e.name) front ++ (d.name ∷ map (λ e. e.name) n.0) =
-          ap (λ v. map (λ e. e.name) v) n.1 ∙ map-append (λ e. e.name) front (d ∷ n.0) in
+      ap (λ v. map (λ e. e.name) v) n.1 ∙ map-append (λ e. e.name) front (d ∷ n.0) in
       differ_twice (map (λ e. e.name) front) (map (λ e. e.name) n.0) d.name there (rw l at g.distinct)
 
 pub one_more_size : (front : List Definition) (d : Definition) → sum_by graph_size (front ++ d ∷ []) ≡ sum_by graph_size front + graph_size d
 one_more_size front d = sum_by_push graph_size front d
-
-pub small_enough : (d : Definition) (xs left : List Lexeme) → Starts d xs left → graph_size d ≤ 2 ^ 22
-small_enough d xs left h = h.defined.small

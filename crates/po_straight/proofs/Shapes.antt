@@ -1,12 +1,12 @@
 -- A sign is a word, made of word bytes, or a mark of one other byte.
-use Rattle.std.proofs.Common.{◌≡◌, ℕ, ◌+◌, ◌<◌, ◌≤◌, ◌^◌, List, [], ◌∷◌, ◌++◌, length, get_or, arith, ap, sym, ◌∙◌, subst, refl, inl, inr, ◌⊎◌, rules}
+use Rattle.std.proofs.Common.{◌≡◌, ℕ, ◌<◌, ◌≤◌, ◌^◌, List, [], ◌∷◌, length, arith, refl, inl, inr, ◌⊎◌}
 use Rattle.std.specs.Prelude.{All, codes, decimal}
 use Rattle.std.specs.List.{AllByRecursion}
-use Rattle.std.proofs.lemmas.List.Elements.{All-head, All-tail, All-cons, All-nil, All-weaker, All-from_recursion}
+use Rattle.std.proofs.lemmas.List.Elements.{All-cons, All-weaker, All-from_recursion}
 use Rattle.std.proofs.lemmas.Fmt.{decimal_nonempty}
 use Rattle.po_straight.specs.declared.lexeme.Sign.{Sign}
 use Rattle.po_straight.specs.declared.lexeme.Sign.TheVariants as s
-use Rattle.po_straight.specs.Spelling.{IsSpelling, IsWord, IsWordByte, IsDigit, IsNondigit, IsBlank, IsIdentifier, IsName}
+use Rattle.po_straight.specs.Spelling.{IsSpelling, IsWord, IsWordByte, IsDigit, IsBlank}
 use Rattle.po_straight.proofs.Numerals.{all_digits}
 
 pub data Shape (x : Sign) (text : List ℕ) : Type 0 where
@@ -62,9 +62,16 @@ void_letters = small_letters (codes "void")
     (small 118 (omega arith) (omega arith), (small 111 (omega arith) (omega arith), (small 105 (omega arith) (omega arith), (small 100 (omega arith) (omega arith), tt))))
 
 return_letters : All IsWordByte (codes "return")
-return_letters = small_letters (codes "return")
-    (small 114 (omega arith) (omega arith), (small 101 (omega arith) (omega arith), (small 116 (omega arith) (omega arith),
-    (small 117 (omega arith) (omega arith), (small 114 (omega arith) (omega arith), (small 110 (omega arith) (omega arith), tt))))))
+return_letters = small_letters (codes "return") (
+  small 114 (omega arith) (omega arith),
+  (
+    small 101 (omega arith) (omega arith),
+    (
+      small 116 (omega arith) (omega arith),
+      (small 117 (omega arith) (omega arith), (small 114 (omega arith) (omega arith), (small 110 (omega arith) (omega arith), tt))),
+    ),
+  ),
+)
 
 pub shape : (x : Sign) (text : List ℕ) → IsSpelling x text → Shape x text
 shape s.Int text e = word tt (rw e int_letters) (rw e (omega arith))

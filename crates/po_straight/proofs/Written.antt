@@ -1,5 +1,5 @@
 -- Which signs a word and a mark can spell.
-use Rattle.std.proofs.Common.{◌≡◌, ℕ, ◌+◌, ◌<◌, ◌≤◌, ◌^◌, List, [], ◌∷◌, ◌++◌, length, get_or, arith, ap, sym, ◌∙◌, subst, refl, inl, inr, ◌⊎◌, Bool, true, false}
+use Rattle.std.proofs.Common.{◌≡◌, ℕ, ◌<◌, ◌≤◌, ◌^◌, List, [], ◌∷◌, length, get_or, arith, sym, ◌∙◌, inl, inr, true, false}
 use Rattle.std.specs.Prelude.{All, codes, decimal, Contains}
 use Rattle.std.proofs.lemmas.List.Elements.{All-head, All-tail}
 use Rattle.std.proofs.lemmas.Fmt.{decimal_nonempty}
@@ -7,7 +7,7 @@ use Rattle.std.proofs.lemmas.Slice.Eq.{bytes_eq-Decides}
 use Rattle.std.specs.Str.{bytes_eq}
 use Rattle.po_straight.specs.declared.lexeme.Sign.{Sign}
 use Rattle.po_straight.specs.declared.lexeme.Sign.TheVariants as s
-use Rattle.po_straight.specs.Spelling.{IsSpelling, IsWord, IsWordByte, IsDigit, IsNondigit, IsBlank, IsIdentifier, keywords}
+use Rattle.po_straight.specs.Spelling.{IsSpelling, IsWord, IsWordByte, IsDigit, IsNondigit, IsIdentifier, keywords}
 use Rattle.po_straight.proofs.Numerals.{all_digits}
 use Rattle.po_straight.proofs.Shapes.{Shape, word, mark, shape}
 

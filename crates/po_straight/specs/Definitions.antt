@@ -36,11 +36,11 @@ operators = fold-Expression ℕ operators_of
 
 -- nodes times registers of a graph: a node for each operator and one for `return`, a register for each parameter
 -- and for each operator
-abbrev pub register_steps : ℕ → Expression → ℕ
-register_steps parameters value = (operators value + 1) * (parameters + operators value)
+abbrev pub nodes_times_registers : ℕ → Expression → ℕ
+nodes_times_registers parameters value = (operators value + 1) * (parameters + operators value)
 
 abbrev pub graph_size : Definition → ℕ
-graph_size d = register_steps (length d.parameters) d.value
+graph_size d = nodes_times_registers (length d.parameters) d.value
 
 -- the signs are those of the definition
 pub record IsDefinition (d : Definition) (xs : List Lexeme) : Type 0 where

@@ -1,9 +1,9 @@
 pub mod Spelling
-pub mod Lexing
 pub mod Distinct
-pub mod Named
 pub mod Expressions
 pub mod Definitions
+pub mod Lexing
+pub mod Named
 pub mod Reading
 pub mod Places
 pub mod Outline

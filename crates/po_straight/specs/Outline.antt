@@ -1,5 +1,5 @@
 -- What stands at the front of signs, and what is left after it.
-use Rattle.std.specs.Prelude.{ℕ, ◌≡◌, ◌+◌, ◌*◌, ◌^◌, ◌≤◌, List, [], ◌∷◌, ◌++◌, length}
+use Rattle.std.specs.Prelude.{ℕ, ◌≡◌, ◌^◌, ◌≤◌, List, [], ◌∷◌, ◌++◌, length}
 use Rattle.std.specs.List.{flat_map}
 use Rattle.po_straight.specs.declared.lexeme.Sign.{Sign}
 use Rattle.po_straight.specs.declared.lexeme.Sign.TheVariants as s
@@ -7,7 +7,7 @@ use Rattle.po_straight.specs.declared.lexeme.Lexeme.{Lexeme}
 use Rattle.po_straight.specs.declared.expression.Expression.{Expression}
 use Rattle.po_straight.specs.declared.definition.Definition.{Definition}
 use Rattle.po_straight.specs.Expressions.{IsExpression}
-use Rattle.po_straight.specs.Definitions.{signs, register_steps, IsDefinition, AreDefinitions}
+use Rattle.po_straight.specs.Definitions.{signs, nodes_times_registers, IsDefinition, AreDefinitions}
 
 -- the first sign is x
 abbrev pub Begins : Sign → List Lexeme → Type 0
@@ -33,7 +33,7 @@ pub record IsBody (parameters : List (List ℕ)) (line : ℕ) (value : Expressio
   pub parts : lexemes ≡ record { sign = s.Return; line = line } ∷ (range ++ (tail ++ left))
   pub valued : IsExpression parameters value range
   pub ending : signs tail ≡ s.Semicolon ∷ (s.CloseBrace ∷ [])
-  pub small : register_steps (length parameters) value ≤ 2 ^ 22
+  pub small : nodes_times_registers (length parameters) value ≤ 2 ^ 22
 
 -- a definition stands at the front, and `left` comes after it
 pub record Starts (d : Definition) (lexemes left : List Lexeme) : Type 0 where

@@ -5,19 +5,19 @@ ghost use Rattle.po_straight.specs.declared.lexeme.Lexeme.{Lexeme as Placed};
 ghost use Rattle.po_straight.specs.declared.expression.Expression.{Expression as Tree};
 ghost use Rattle.po_straight.specs.Distinct.{AllDiffer};
 ghost use Rattle.po_straight.specs.Expressions.{IsExpression};
-ghost use Rattle.po_straight.specs.Definitions.{operators, register_steps};
+ghost use Rattle.po_straight.specs.Definitions.{operators, nodes_times_registers};
 ghost use Rattle.po_straight.specs.Outline.{Begins, IsBody, IsOpen};
 
 use crate::expression::Expression;
 use crate::heading::stands;
 use crate::lexeme::{Lexeme, Sign};
-use crate::parameters::Parameters;
+use crate::names::Parameters;
 use crate::read_expression::read_expression;
 use po_base::Memory;
 use std::alloc::Global;
 
 /// The most nodes times registers of a function that is served.
-const MOST_STEPS: u64 = 1 << 22;
+const MOST_GRAPH_SIZE: u64 = 1 << 22;
 
 /// What stands between the heading of a definition and its end.
 #[derive(Drop)]
@@ -49,10 +49,10 @@ fn semicolon_from(lexemes: &[Lexeme], start: usize) -> usize
 }
 
 /// How many nodes times registers the graph of a function has.
-pub(crate) fn steps(parameters: usize, value: &Expression) -> u64
+pub(crate) fn graph_size_of(parameters: usize, value: &Expression) -> u64
     requires few { parameters ≤ 2 ^ 24 }
     requires short { operators value.now ≤ 2 ^ 24 }
-    ensures { result ≡ register_steps parameters value.now }
+    ensures { result ≡ nodes_times_registers parameters value.now }
 {
     let operators = u64::from(value.operators());
     (operators + 1) * (parameters as u64 + operators)
@@ -60,7 +60,12 @@ pub(crate) fn steps(parameters: usize, value: &Expression) -> u64
 
 /// The body `return EXPRESSION;}` at a place. Time linear in its signs but for the logarithm of the number of
 /// parameters.
-pub(crate) fn body_at(alloc: Global, lexemes: &[Lexeme], at: usize, parameters: &Parameters) -> Result<Option<Body>, Memory>
+pub(crate) fn body_at(
+    alloc: Global,
+    lexemes: &[Lexeme],
+    at: usize,
+    parameters: &Parameters,
+) -> Result<Option<Body>, Memory>
     requires short { length lexemes.now ≤ 2 ^ 24 }
     requires few { length parameters.now ≤ 2 ^ 24 }
     requires differ { AllDiffer parameters.now }
@@ -84,7 +89,7 @@ pub(crate) fn body_at(alloc: Global, lexemes: &[Lexeme], at: usize, parameters: 
     let Some(value) = read_expression(alloc, range, parameters)? else {
         return Ok(None);
     };
-    if steps(parameters.len(), &value) > MOST_STEPS {
+    if graph_size_of(parameters.len(), &value) > MOST_GRAPH_SIZE {
         return Ok(None);
     }
     Ok(Some(Body {

@@ -7,7 +7,7 @@ ghost use Rattle.po_straight.specs.Definitions.{signs, parameter_signs, heading_
 ghost use Rattle.po_straight.specs.Outline.{Begins, Leads};
 
 use crate::lexeme::{Lexeme, Sign};
-use crate::parameters::Parameters;
+use crate::names::Parameters;
 use po_base::{Memory, Text};
 use std::alloc::Global;
 
@@ -68,7 +68,11 @@ fn declared_at(lexemes: &[Lexeme], at: usize) -> Result<Option<Text>, Memory>
 
 /// The parameters that are declared at a place, and where they end. Time linear in them but for the logarithm
 /// of their number.
-fn parameters_at(alloc: Global, lexemes: &[Lexeme], start: usize) -> Result<Option<(Parameters, usize)>, Memory>
+fn parameters_at(
+    alloc: Global,
+    lexemes: &[Lexeme],
+    start: usize,
+) -> Result<Option<(Parameters, usize)>, Memory>
     requires short { length lexemes.now ≤ 2 ^ 24 }
     requires inside { start ≤ length lexemes.now }
     ensures found { IfOk result (λ found. IfSome found (λ p. Leads (parameter_signs p.0) (drop start lexemes.now) (drop p.1 lexemes.now))) }
@@ -102,7 +106,11 @@ fn parameters_at(alloc: Global, lexemes: &[Lexeme], start: usize) -> Result<Opti
 
 /// The heading `int NAME(PARAMETERS){` at a place. Time linear in it but for the logarithm of the number of
 /// parameters.
-pub(crate) fn heading_at(alloc: Global, lexemes: &[Lexeme], at: usize) -> Result<Option<Heading>, Memory>
+pub(crate) fn heading_at(
+    alloc: Global,
+    lexemes: &[Lexeme],
+    at: usize,
+) -> Result<Option<Heading>, Memory>
     requires { length lexemes.now ≤ 2 ^ 24 }
     ensures found { IfOk result (λ found. IfSome found (λ h. Leads (heading_signs h.name h.parameters) (drop at lexemes.now) (drop h.end lexemes.now))) }
     ensures within { IfOk result (λ found. IfSome found (λ h. h.end ≤ length lexemes.now)) }

@@ -81,5 +81,4 @@ pub(crate) fn lexemes(alloc: Global, bytes: &[u8]) -> Result<Option<List<Lexeme>
 /// No bytes spell two lists of signs.
 pub fn spell_one_list()
     ensures { (line : ℕ) (xs ys : List Placed) (bytes : List ℕ) → Spells line xs bytes → Spells line ys bytes → xs ≡ ys }
-{
-}
+{}

@@ -1,6 +1,9 @@
-//! The reader of files of straight integer functions: the part of C that cproof serves so far, from the bytes of
-//! a file to the trees of its definitions, exactly where they are such a file. It stands until the readers of
-//! whole C do.
+//! The reader of files of straight integer functions: the part of C that cproof serves so far. From the bytes of
+//! a file it gives the trees of its definitions `int NAME(PARAMETERS){return EXPRESSION;}`, exactly where the
+//! bytes are such a file, and there is one reading at most. It stands until the readers of whole C do.
+//!
+//! From below: bytes, words and signs (`letters`, `word`, `lexeme`, `lexing`); expressions (`expression`,
+//! `names`, `read_expression`); definitions and the file (`definition`, `heading`, `body`, `reading`).
 #![tactic(auto)]
 
 mod body;
@@ -10,7 +13,7 @@ mod heading;
 mod letters;
 mod lexeme;
 mod lexing;
-mod parameters;
+mod names;
 mod read_expression;
 mod reading;
 mod word;

@@ -8,7 +8,7 @@ ghost use Rattle.po_straight.specs.Places.{BeginsWithClose, GoesOnBy, IsFound, C
 
 use crate::expression::Expression;
 use crate::lexeme::{Lexeme, Sign};
-use crate::parameters::Parameters;
+use crate::names::Parameters;
 use po_base::{Boxed, Memory, Op};
 use std::alloc::Global;
 

@@ -9,10 +9,43 @@ use std::alloc::Global;
 
 /// The keywords of C99.
 const KEYWORDS: [&[u8]; 37] = [
-    b"auto", b"break", b"case", b"char", b"const", b"continue", b"default", b"do", b"double", b"else", b"enum", b"extern",
-    b"float", b"for", b"goto", b"if", b"inline", b"int", b"long", b"register", b"restrict", b"return", b"short", b"signed",
-    b"sizeof", b"static", b"struct", b"switch", b"typedef", b"union", b"unsigned", b"void", b"volatile", b"while",
-    b"_Bool", b"_Complex", b"_Imaginary",
+    b"auto",
+    b"break",
+    b"case",
+    b"char",
+    b"const",
+    b"continue",
+    b"default",
+    b"do",
+    b"double",
+    b"else",
+    b"enum",
+    b"extern",
+    b"float",
+    b"for",
+    b"goto",
+    b"if",
+    b"inline",
+    b"int",
+    b"long",
+    b"register",
+    b"restrict",
+    b"return",
+    b"short",
+    b"signed",
+    b"sizeof",
+    b"static",
+    b"struct",
+    b"switch",
+    b"typedef",
+    b"union",
+    b"unsigned",
+    b"void",
+    b"volatile",
+    b"while",
+    b"_Bool",
+    b"_Complex",
+    b"_Imaginary",
 ];
 
 /// Whether a word stands among these words. Time linear in their number.
@@ -52,7 +85,11 @@ pub(crate) fn constant(word: &[u8]) -> Option<u32>
         }
         value = 10 * value + digit(word[at])?;
     }
-    if value < 1 << 31 { Some(value as u32) } else { None }
+    if value < 1 << 31 {
+        Some(value as u32)
+    } else {
+        None
+    }
 }
 
 /// The sign that a word spells: a keyword of the served language, a name or a constant. Time linear in the word.

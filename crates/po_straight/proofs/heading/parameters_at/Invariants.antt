@@ -1,5 +1,4 @@
-use Rattle.std.proofs.Common.{◌≡◌, ◌+◌, ◌-◌, ◌≤◌, ◌∷◌, length, drop, List}
-use Rattle.po_straight.specs.declared.lexeme.Sign.{Sign}
+use Rattle.std.proofs.Common.{◌-◌, ◌≤◌, length, drop}
 use Rattle.po_straight.specs.declared.lexeme.Sign.TheVariants as s
 use Rattle.po_straight.specs.Distinct.{AllDiffer}
 use Rattle.po_straight.specs.Outline.{Leads, with_commas, Begins}

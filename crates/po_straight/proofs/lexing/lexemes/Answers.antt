@@ -1,6 +1,6 @@
-use Rattle.std.proofs.Common.{refl, arith, ℕ, [], ◌∷◌, ◌≡◌, ◌<◌, ◌+◌, ◌≤◌, ◌∙◌, sym, get_or}
+use Rattle.std.proofs.Common.{refl, arith, ℕ, [], ◌∷◌, ◌≡◌, ◌≤◌, get_or}
 use Rattle.po_straight.specs.Spelling.{newlines}
-use Rattle.po_straight.proofs.Fronts.{front_start, front_blank, front_sign, front_end, front_stuck, one_line}
+use Rattle.po_straight.proofs.Fronts.{front_blank, front_sign, front_end, front_stuck, one_line}
 use Rattle.po_straight.proofs.lexing.lexemes.Goals as goal
 
 pub loop-at-preserved-then-is_blank : goal.loop-at-preserved-then-is_blank

@@ -1,12 +1,9 @@
-use Rattle.std.proofs.Common.{arith, sym, ap, ◌∙◌, ◌≡◌, ◌+◌, ◌<◌, ◌≤◌, ◌^◌, ◌∷◌, [], ◌++◌, ℕ, List, drop, map, length, length-append, subst, refl}
-use Rattle.std.specs.Prelude.{sum_by, Contains}
+use Rattle.std.proofs.Common.{arith, sym, ap, ◌∙◌, ◌≡◌, ◌+◌, ◌<◌, ◌≤◌, ◌^◌, ◌∷◌, [], ◌++◌, map, length, length-append, subst}
+use Rattle.std.specs.Prelude.{sum_by}
 use Rattle.std.proofs.lemmas.List.{map_push}
-use Rattle.po_straight.specs.declared.definition.Definition.{Definition}
-use Rattle.po_straight.specs.Distinct.{AllDiffer}
-use Rattle.po_straight.specs.Definitions.{graph_size, AreServed}
-use Rattle.po_straight.specs.Outline.{Starts}
+use Rattle.po_straight.specs.Definitions.{graph_size}
 use Rattle.po_straight.proofs.Placing.{differ_push}
-use Rattle.po_straight.proofs.Sequences.{front_start, front_more, front_end, front_stuck, too_many, too_large, twice, one_more_size, small_enough}
+use Rattle.po_straight.proofs.Sequences.{front_more, front_end, front_stuck, too_many, too_large, twice, one_more_size}
 use Rattle.po_straight.proofs.reading.definitions.Goals as goal
 
 pub returns-in_default-clause-none : goal.returns-in_default-clause-none
@@ -16,20 +13,20 @@ returns-in_default-clause-none c =
 pub returns-then-len-eq-MOST_FUNCTIONS-clause-none : goal.returns-then-len-eq-MOST_FUNCTIONS-clause-none
 returns-then-len-eq-MOST_FUNCTIONS-clause-none c =
     too_many c.loop-at.definitions c.in-Some.definition c.args.lexemes.now c.loop-at.at _ (rw c.in-Some.is at c.in_ok-definition.ensures.found) c.loop-at.invariant.front
-        (sym c.len.ensures ∙ c.if-len-eq-MOST_FUNCTIONS.true)
+    (sym c.len.ensures ∙ c.if-len-eq-MOST_FUNCTIONS.true)
 
-pub returns-then-size-gt-MOST_SIZE-clause-none : goal.returns-then-size-gt-MOST_SIZE-clause-none
-returns-then-size-gt-MOST_SIZE-clause-none c =
+pub returns-then-size-gt-MOST_FILE_SIZE-clause-none : goal.returns-then-size-gt-MOST_FILE_SIZE-clause-none
+returns-then-size-gt-MOST_FILE_SIZE-clause-none c =
     let e : c.loop-at.size + c.size_of.result ≡ sum_by graph_size c.loop-at.definitions + graph_size c.in-Some.definition =
-        ap (λ n. n + c.size_of.result) c.loop-at.invariant.sized ∙ ap (λ n. sum_by graph_size c.loop-at.definitions + n) c.size_of.ensures in
+    ap (λ n. n + c.size_of.result) c.loop-at.invariant.sized ∙ ap (λ n. sum_by graph_size c.loop-at.definitions + n) c.size_of.ensures in
     too_large c.loop-at.definitions c.in-Some.definition c.args.lexemes.now c.loop-at.at _ (rw c.in-Some.is at c.in_ok-definition.ensures.found) c.loop-at.invariant.front
-        (subst (λ n. 2 ^ 24 < n) e c.if-size-gt-MOST_SIZE.true)
+    (subst (λ n. 2 ^ 24 < n) e c.if-size-gt-MOST_FILE_SIZE.true)
 
 pub returns-then-not-branch-clause-none : goal.returns-then-not-branch-clause-none
 returns-then-not-branch-clause-none c =
     let there = (rw (c.if-not-branch.true, c.in_ok-share.ensures) at c.in_ok-insert.ensures).1 in
     twice c.loop-at.definitions c.in-Some.definition c.args.lexemes.now c.loop-at.at _ (rw c.in-Some.is at c.in_ok-definition.ensures.found) c.loop-at.invariant.front
-        (rw c.loop-at.invariant.named at there)
+    (rw c.loop-at.invariant.named at there)
 
 pub loop-at-preserved : goal.loop-at-preserved
 loop-at-preserved c =
@@ -38,7 +35,7 @@ loop-at-preserved c =
     let grown : c.push.new.self ≡ c.loop-at.definitions ++ c.in-Some.definition ∷ [] = c.in_ok-push.ensures.ok in
     let longer : length c.push.new.self ≡ length c.loop-at.definitions + 1 = ap length grown ∙ length-append c.loop-at.definitions (c.in-Some.definition ∷ []) in
     let e : c.loop-at.size + c.size_of.result ≡ sum_by graph_size c.loop-at.definitions + graph_size c.in-Some.definition =
-        ap (λ n. n + c.size_of.result) c.loop-at.invariant.sized ∙ ap (λ n. sum_by graph_size c.loop-at.definitions + n) c.size_of.ensures in
+    ap (λ n. n + c.size_of.result) c.loop-at.invariant.sized ∙ ap (λ n. sum_by graph_size c.loop-at.definitions + n) c.size_of.ensures in
     record {
       front = front_more c.loop-at.definitions c.push.new.self c.in-Some.definition _ _ c.args.lexemes.now stands grown c.loop-at.invariant.front;
       named = added.0 ∙ ap (λ v. v ++ c.in-Some.definition.name ∷ []) c.loop-at.invariant.named ∙
@@ -46,7 +43,7 @@ loop-at-preserved c =
       distinct = rw added.0 (differ_push c.loop-at.names c.in-Some.definition.name c.loop-at.invariant.distinct added.1);
       few = omega (arith, longer, c.len.ensures);
       sized = e ∙ sym (one_more_size c.loop-at.definitions c.in-Some.definition) ∙ ap (λ v. sum_by graph_size v) (sym grown);
-      small = c.if-size-gt-MOST_SIZE.false;
+      small = c.if-size-gt-MOST_FILE_SIZE.false;
       within = (rw c.in-Some.is at c.in_ok-definition.ensures.within).1;
     }
 

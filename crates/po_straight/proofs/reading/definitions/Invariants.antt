@@ -13,7 +13,7 @@ invariant-loop-at l = record {
   few : length l.definitions ≤ 65535;
   sized : l.size ≡ sum_by graph_size l.definitions;
   small : l.size ≤ 2 ^ 24;
-  within : l.at ≤ length l.lexemes
+  within : l.at ≤ length l.lexemes;
 }
 
 abbrev pub decreases-loop-at : goal.decreases-loop-at

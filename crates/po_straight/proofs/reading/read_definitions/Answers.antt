@@ -1,4 +1,4 @@
-use Rattle.std.proofs.Common.{arith, sym, ap, ◌≡◌, ◌≤◌, length, subst}
+use Rattle.std.proofs.Common.{arith, ap, ◌≡◌, length, subst}
 use Rattle.po_straight.specs.Definitions.{AreServed}
 use Rattle.po_straight.proofs.Following.{one_spelling, fewer_signs}
 use Rattle.po_straight.proofs.reading.read_definitions.Goals as goal

@@ -1,5 +1,4 @@
-use Rattle.std.proofs.Common.{◌≡◌, ◌<◌, ◌≤◌, ◌^◌, ◌∙◌, ℕ, arith, sym, ap, subst, length, take, take_all, rules}
-use Rattle.std.specs.Prelude.{decimal}
+use Rattle.std.proofs.Common.{◌≡◌, ◌<◌, ◌^◌, ◌∙◌, arith, sym, length, take, take_all}
 use Rattle.po_straight.proofs.Numerals.{not_empty, not_nothing, not_long, not_digit, first, next, below, bounded, not_longer, not_large}
 use Rattle.po_straight.proofs.word.constant.Goals as goal
 
@@ -27,9 +26,10 @@ returns-in_err-value-2-clause-none c =
 
 pub loop-at-preserved : goal.loop-at-preserved
 loop-at-preserved c =
-    let digit : c.in_ok-value-2.field-0 < 10 = c.in_ok-value-2.ensures.0 in
-    (next _ _ _ _ c.loop-at-test.true (omega arith) (bounded c.loop-at.at _ (omega arith) c.loop-at.invariant.1) digit c.in_ok-value-2.ensures.1 c.loop-at.invariant.0,
-     below c.loop-at.at _ _ c.loop-at.invariant.1 digit)
+    let digit : c.in_ok-value-2.field-0 < 10 = c.in_ok-value-2.ensures.0 in (
+      next _ _ _ _ c.loop-at-test.true (omega arith) (bounded c.loop-at.at _ (omega arith) c.loop-at.invariant.1) digit c.in_ok-value-2.ensures.1 c.loop-at.invariant.0,
+      below c.loop-at.at _ _ c.loop-at.invariant.1 digit,
+    )
 
 pub overflow_mul-value : goal.overflow_mul-value
 overflow_mul-value c =
