@@ -129,7 +129,11 @@ fn texts_are_ordered_byte_by_byte_and_shared(rt: HostRuntime) -> Result<(), Fail
         for (place, others) in ascending.iter().enumerate() {
             let right = Text::new(rt.alloc(), others)?;
             assert_eq!(rt; left.cmp(&right), at.cmp(&place), "{at} and {place}");
-            assert_eq!(rt; left.partial_cmp(&right), Some(at.cmp(&place)), "{at} and {place}");
+            assert_eq!(rt;
+                left.partial_cmp(&right),
+                Some(at.cmp(&place)),
+                "{at} and {place}"
+            );
             assert_eq!(rt; left == right, at == place, "{at} and {place}");
         }
     }
