@@ -2,6 +2,9 @@
 //! the top call.
 #![tactic(auto)]
 
+#[cfg(test)]
+mod tests;
+
 use po_app::run;
 use po_io::{DirFiles, StdSink};
 use std::env;

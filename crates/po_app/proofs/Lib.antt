@@ -6,4 +6,5 @@ mod Outcomes
 mod Pairs
 mod Reached
 mod Sizes
+mod Small
 mod Soundness

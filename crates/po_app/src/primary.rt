@@ -1,4 +1,4 @@
-ghost use Rattle.std.specs.Prelude.{◌≡◌, IfOk};
+ghost use Rattle.std.specs.Prelude.{◌≡◌, ◌++◌, IfOk, OnOk};
 ghost use Rattle.po_app.specs.Obligations.{place as place_of, overflow as overflow_of, division as division_of, operator_predicates as predicates_of_operator, predicates as predicates_of};
 ghost use Rattle.po_app.specs.Ranges.{AreSmall, AreSmallOf, IsSmallInstr, IsSmallOperand, IsSmallPlace};
 
@@ -25,7 +25,28 @@ fn place(operand: &Opnd) -> Place
     }
 }
 
-/// The overflow predicate of an operator, in signed types.
+/// Adds the overflow predicate of an operator, in signed types.
+fn add_overflow(
+    list: &mut List<Pred>,
+    op: Over,
+    ty: &IntType,
+    a: &Place,
+    b: &Place,
+) -> Result<(), Memory>
+    ensures { OnOk result (list.new ≡ list.old ++ overflow_of op ty.now a.now b.now) }
+{
+    if ty.signed {
+        list.push(Pred::NoOver {
+            op,
+            bits: ty.bits,
+            a: *a,
+            b: Some(*b),
+        })?;
+    }
+    Ok(())
+}
+
+/// The overflow predicate of an operator.
 fn overflow(
     alloc: Global,
     op: Over,
@@ -36,19 +57,12 @@ fn overflow(
     ensures exact { IfOk result (λ list. list ≡ overflow_of op ty.now a.now b.now) }
     ensures small { AreSmallOf ty.now a.now b.now → IfOk result AreSmall }
 {
-    let mut list = List::new(alloc);
-    if ty.signed {
-        list.push(Pred::NoOver {
-            op,
-            bits: ty.bits,
-            a: *a,
-            b: Some(*b),
-        })?;
-    }
-    Ok(list)
+    let mut only = List::new(alloc);
+    add_overflow(&mut only, op, ty, a, b)?;
+    Ok(only)
 }
 
-/// The predicates of a division: that the divisor isn't 0, and in signed types that the result fits.
+/// The predicates of a division: that the divisor isn't 0, and the overflow predicate.
 fn division(
     alloc: Global,
     op: Over,
@@ -61,14 +75,7 @@ fn division(
 {
     let mut list = List::new(alloc);
     list.push(Pred::Nonzero { x: *b })?;
-    if ty.signed {
-        list.push(Pred::NoOver {
-            op,
-            bits: ty.bits,
-            a: *a,
-            b: Some(*b),
-        })?;
-    }
+    add_overflow(&mut list, op, ty, a, b)?;
     Ok(list)
 }
 
