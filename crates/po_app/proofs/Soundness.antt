@@ -10,3 +10,5 @@ mod Results
 mod Decided
 pub mod Along
 pub mod Progress
+pub mod Starting
+mod Sample
