@@ -5,7 +5,7 @@ use std::alloc::Global;
 use std::process::Abort;
 
 /// Room that is ample for each text here.
-const ROOM: usize = 4096;
+const ROOM: usize = 65_536;
 
 #[derive(Clone, Copy)]
 /// The outside world of a run: one file, the most bytes of a write, and the calls that fail.
@@ -196,7 +196,7 @@ fn names_may_begin_like_keywords(rt: HostRuntime) {
     );
 }
 
-/// A front, so many times a middle, and as many times a back.
+/// A function whose value is `a`, with so many openings before it and as many closings behind it.
 fn nested(rt: &impl Abort, alloc: Global, count: usize, opening: &[u8], closing: &[u8]) -> Vec<u8> {
     let mut text = Vec::from_slice(alloc, b"int f(int a){return ").expect(rt, "memory");
     for _ in 0..count {
@@ -218,8 +218,28 @@ fn expressions_nest_256_deep(rt: HostRuntime) {
     expect_report(&rt, rt.alloc(), &within, Status::Clean, none);
     let beyond = nested(&rt, rt.alloc(), 256, b"(", b")");
     expect_report(&rt, rt.alloc(), &beyond, Status::Refused, refused);
-    let chain = nested(&rt, rt.alloc(), 256, b"a%", b"");
+    let chain = nested(&rt, rt.alloc(), 256, b"", b"*1");
     expect_report(&rt, rt.alloc(), &chain, Status::Refused, refused);
+}
+
+// The last of the 255 operators stands at node 254, and its left operand is the result of the one before.
+#[test]
+fn a_row_of_255_operators_is_served(rt: HostRuntime) {
+    let chain = nested(&rt, rt.alloc(), 255, b"", b"*1");
+    let first: &[u8] = b"a.c:1 f 0.0 no_over(mul,a,1) closed range\n";
+    let mut text = Vec::from_slice(rt.alloc(), first).expect(&rt, "memory");
+    for node in 1..255u32 {
+        let line = format!(in rt.alloc();
+            "a.c:1 f {node}.0 no_over(mul,%{},1) closed range\n",
+            node - 1
+        );
+        let line = line.expect(&rt, "memory");
+        text.extend_from_slice(line.as_bytes())
+            .expect(&rt, "memory");
+    }
+    text.extend_from_slice(b"total 255 closed 255 delegated 0 open 0\n")
+        .expect(&rt, "memory");
+    expect_report(&rt, rt.alloc(), &chain, Status::Clean, &text);
 }
 
 #[test]
