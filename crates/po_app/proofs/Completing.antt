@@ -1,5 +1,5 @@
 -- Where the words are a command and the file is served, a report is decided.
-use Rattle.std.proofs.Common.{◌≡◌, ℕ, ◌^◌, ◌<◌, ◌≤◌, inl, inr, List, [], ◌∷◌, Option, Some, Bool, true, false, cond, length, arith, refl, sym, subst, ◌∙◌}
+use Rattle.std.proofs.Common.{◌≡◌, ℕ, ◌^◌, ◌≤◌, inl, inr, List, [], ◌∷◌, Option, Some, Bool, true, false, cond, length, arith, refl, sym, subst, ◌∙◌}
 use Rattle.std.specs.Prelude.{codes}
 use Rattle.po_straight.specs.declared.definition.Definition.{Definition}
 use Rattle.po_straight.specs.Definitions.{IsFile}

@@ -1,6 +1,6 @@
 -- A product lies between those of the ends.
-use Rattle.std.proofs.Common.{◌≡◌, ℕ, zero, suc, ◌+◌, ◌*◌, ◌≤◌, arith, sym, refl, ◌⊎◌, inl, inr}
-use Rattle.std.specs.Prelude.{ℤ, ◌≤ℤ◌, ◌+ℤ◌, ◌*ℤ◌, ◌-ℤ◌, pos, negsuc}
+use Rattle.std.proofs.Common.{◌≡◌, zero, suc, ◌≤◌, arith, sym, refl, ◌⊎◌, inl, inr}
+use Rattle.std.specs.Prelude.{ℤ, ◌≤ℤ◌, ◌*ℤ◌, pos, negsuc}
 use Rattle.std.specs.Int.{int_min, int_max}
 use Rattle.std.proofs.lemmas.Int.{ints, clamps}
 use Rattle.std.proofs.Math.Nat.{mul-le-mul_right}

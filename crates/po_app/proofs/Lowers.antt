@@ -1,12 +1,12 @@
 -- What lowering appends for each kind of expression.
 use Rattle.std.proofs.Common.{◌≡◌, ℕ, ◌+◌, ◌<◌, ◌^◌, List, [], ◌∷◌, ◌++◌, length, arith, refl, ap, sym, subst, ◌∙◌, inl, append_assoc, length-append}
-use Rattle.std.specs.Prelude.{pos, All}
+use Rattle.std.specs.Prelude.{pos}
 use Rattle.std.proofs.lemmas.List.{append-nil}
 use Rattle.std.proofs.lemmas.List.Elements.{All-nil, All-cons, All-append}
 use Rattle.std.proofs.lemmas.Int.{ints}
 use Rattle.po_base.specs.declared.operators.Op.{Op}
 use Rattle.po_base.specs.declared.operand.Opnd.{Opnd}
-use Rattle.po_base.specs.declared.operand.Opnd.TheVariants.{Reg, Num}
+use Rattle.po_base.specs.declared.operand.Opnd.TheVariants.{Num}
 use Rattle.po_ir.specs.declared.instr.Instr.TheVariants.{Bin}
 use Rattle.po_ir.specs.declared.graph.Node.{Node}
 use Rattle.po_straight.specs.declared.expression.Expression.{Expression}

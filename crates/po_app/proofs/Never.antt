@@ -1,7 +1,6 @@
 -- An operator never leaves its type over two ranges exactly where it doesn't at their ends.
-use Rattle.std.proofs.Common.{◌≡◌, ◌⊎◌, inl, inr, ◌↔◌, ℕ, ◌^◌, ◌-◌, arith, sym, refl, subst, Bool, IsTrue}
+use Rattle.std.proofs.Common.{◌≡◌, ◌⊎◌, inl, inr, ◌↔◌, ℕ, arith, sym, refl, subst, Bool, IsTrue}
 use Rattle.std.specs.Prelude.{ℤ, ◌≤ℤ◌, ◌<ℤ◌, ◌+ℤ◌, ◌*ℤ◌, ◌-ℤ◌, neg_ℤ, pos, negsuc}
-use Rattle.std.specs.Int.{int_min, int_max}
 use Rattle.std.proofs.lemmas.Int.{ints, clamps}
 use Rattle.po_app.specs.declared.range.Range.{Range}
 use Rattle.po_app.specs.declared.pred.Over.{Over}

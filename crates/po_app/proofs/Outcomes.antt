@@ -1,19 +1,19 @@
 -- What is decided, from what was found.
-use Rattle.std.proofs.Common.{◌≡◌, ℕ, ◌+◌, ◌*◌, ◌^◌, ◌<◌, ◌≤◌, ◌⊎◌, inl, inr, List, [], ◌∷◌, Option, Some, None, Ok, Err, Bool, true, false, cond, length, replicate, arith, refl, sym, subst, ◌∙◌}
+use Rattle.std.proofs.Common.{◌≡◌, ℕ, ◌+◌, ◌*◌, ◌^◌, ◌<◌, ◌≤◌, ◌⊎◌, inl, inr, List, Option, Some, None, Ok, Err, Bool, true, false, cond, length, replicate, arith, refl, sym, subst, ◌∙◌}
 use Rattle.std.specs.Prelude.{All, codes, IfSome}
 use Rattle.std.proofs.lemmas.List.{length-replicate}
 use Rattle.std.proofs.lemmas.List.Elements.{All-nil, All-cons}
 use Rattle.po_io.specs.declared.reading.ReadFail.TheVariants.{TooLong}
 use Rattle.po_io.specs.Reading.{IsReadOf}
-use Rattle.po_io.specs.Writing.{Adds, AddsPrefix}
+use Rattle.po_io.specs.Writing.{Adds}
 use Rattle.po_straight.specs.declared.lexeme.Lexeme.{Lexeme}
 use Rattle.po_straight.specs.declared.definition.Definition.{Definition}
-use Rattle.po_straight.specs.Definitions.{IsFile, IsDefinition, AreDefinitions, none, more, operators, graph_size}
+use Rattle.po_straight.specs.Definitions.{IsFile, AreDefinitions, none, more, operators}
 use Rattle.po_app.specs.declared.status.Status.{Status}
 use Rattle.po_app.specs.declared.status.Status.TheVariants.{Clean, Open, Usage, Refused, ReadFault, WriteFault, NoMemory}
 use Rattle.po_app.specs.Lowered.{IsCounted}
 use Rattle.po_app.specs.Command.{IsCheck, usage_text}
-use Rattle.po_app.specs.Outcome.{named_text, status_of, IsReported, Decides, too_long, not_served, reported, AreTold, Answers, usage, read_fault, decided, Ends, Told}
+use Rattle.po_app.specs.Outcome.{named_text, Decides, too_long, not_served, reported, AreTold, Answers, usage, read_fault, decided, Ends, Told}
 
 counted : (ops params : ℕ) → (ops + 1) * (params + ops) ≤ 2 ^ 22 → params + ops + 1 < 2 ^ 32
 counted ops params h = omega arith

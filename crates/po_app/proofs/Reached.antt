@@ -1,6 +1,6 @@
 -- Each number of a place's range is a value that it may have.
-use Rattle.std.proofs.Common.{◌≡◌, ◌^◌, arith, sym, subst}
-use Rattle.std.specs.Prelude.{ℤ, ◌≤ℤ◌, ◌+ℤ◌, ◌-ℤ◌, neg_ℤ, pos, Option, Some}
+use Rattle.std.proofs.Common.{◌≡◌, arith, sym, subst}
+use Rattle.std.specs.Prelude.{ℤ, ◌≤ℤ◌, ◌+ℤ◌, ◌-ℤ◌, neg_ℤ, pos, Some}
 use Rattle.std.specs.Int.{int_max}
 use Rattle.std.proofs.lemmas.Int.{ints, clamps}
 use Rattle.po_app.specs.declared.pred.Atom.{Atom}

@@ -1,5 +1,5 @@
 -- Sizes of numbers.
-use Rattle.std.proofs.Common.{◌≡◌, ◌≤◌, ◌^◌, ℕ, arith}
+use Rattle.std.proofs.Common.{◌≤◌, ◌^◌, ℕ, arith}
 use Rattle.std.specs.Prelude.{ℤ, ◌≤ℤ◌, neg_ℤ, pos, negsuc}
 use Rattle.std.specs.Int.RustNames.{unsigned_abs}
 use Rattle.std.proofs.lemmas.Int.{ints}

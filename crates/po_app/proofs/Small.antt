@@ -1,6 +1,5 @@
 -- The predicates of an operator on small numbers are small.
-use Rattle.std.proofs.Common.{◌≡◌, ℕ, ◌≤◌, List, [], ◌∷◌, length, Bool, true, false, cond, arith, Some, ◌++◌, ap, ◌∙◌}
-use Rattle.std.specs.Prelude.{All}
+use Rattle.std.proofs.Common.{◌≡◌, List, [], ◌∷◌, Bool, true, false, cond, arith, Some, ◌++◌, ap, ◌∙◌}
 use Rattle.std.proofs.lemmas.List.Elements.{All-nil, All-cons}
 use Rattle.po_ir.specs.declared.int_type.IntType.{IntType}
 use Rattle.po_app.specs.declared.pred.Place.{Place}

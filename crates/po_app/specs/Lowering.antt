@@ -4,8 +4,6 @@ use Rattle.std.specs.List.{AllZip}
 use Rattle.po_base.specs.declared.operators.Op.{Op}
 use Rattle.po_base.specs.declared.operand.Opnd.{Opnd}
 use Rattle.po_base.specs.declared.operand.Opnd.TheVariants.{Reg, Num}
-use Rattle.po_base.specs.declared.numbers.RegNo.{RegNo}
-use Rattle.po_ir.specs.declared.int_type.IntType.{IntType}
 use Rattle.po_ir.specs.declared.instr.Ty.{Ty}
 use Rattle.po_ir.specs.declared.instr.Ty.TheVariants.{Int}
 use Rattle.po_ir.specs.declared.instr.Instr.{Instr}

@@ -1,5 +1,5 @@
 -- What the top call decides, and what it has written when it answers.
-use Rattle.std.specs.Prelude.{ℕ, ◌^◌, ◌<◌, ◌≤◌, ◌≡◌, ◌==◌, ◌⊎◌, List, [], ◌∷◌, ◌++◌, Option, IfSome, codes, length, Bool, true, false, cond}
+use Rattle.std.specs.Prelude.{ℕ, ◌^◌, ◌<◌, ◌≤◌, ◌≡◌, ◌==◌, ◌⊎◌, List, [], ◌++◌, Option, IfSome, codes, length, cond}
 use Rattle.po_io.specs.Writing.{Adds, AddsPrefix}
 use Rattle.po_ir.specs.declared.project.Project.{Project}
 use Rattle.po_straight.specs.declared.definition.Definition.{Definition}

@@ -1,6 +1,5 @@
 -- Predicates on whole numbers, and the values that the places of a predicate may have.
-use Rattle.std.specs.Prelude.{ℕ, ◌+◌, ◌-◌, ◌^◌, ◌≡◌, ◌≢◌, ℤ, pos, negsuc, neg_ℤ, ◌+ℤ◌, ◌-ℤ◌, ◌*ℤ◌, ◌≤ℤ◌, ◌<ℤ◌, Option, Some, None}
-use Rattle.std.specs.Int.RustNames.{int_div, int_rem}
+use Rattle.std.specs.Prelude.{ℕ, ◌-◌, ◌^◌, ◌≡◌, ◌≢◌, ℤ, pos, negsuc, neg_ℤ, ◌+ℤ◌, ◌-ℤ◌, ◌*ℤ◌, ◌≤ℤ◌, ◌<ℤ◌, Option, Some, None}
 use Rattle.po_app.specs.declared.pred.Atom.{Atom}
 use Rattle.po_app.specs.declared.pred.Place.{Place}
 use Rattle.po_app.specs.declared.pred.Over.{Over}

@@ -1,5 +1,5 @@
 -- The text of a report.
-use Rattle.std.specs.Prelude.{ℕ, ℤ, pos, negsuc, ◌+◌, ◌≡◌, ◌++◌, ◌==◌, ◌&&◌, List, [], ◌∷◌, codes, take, count_by, length, Option, Some, None, Bool, true, false, slice_get, cond, is_none}
+use Rattle.std.specs.Prelude.{ℕ, ℤ, pos, negsuc, ◌++◌, ◌==◌, List, [], codes, take, count_by, length, Option, Some, None, Bool, true, false, slice_get, cond, is_none}
 use Rattle.std.specs.List.{flat_map}
 use Rattle.std.specs.Fmt.{decimal, signed_decimal}
 use Rattle.std.specs.Ordering.{int_eq}

@@ -1,5 +1,5 @@
 use Rattle.std.proofs.Common.{◌<◌, ◌^◌, FitsSigned, arith, refl, rules, subst, sym}
-use Rattle.std.proofs.lemmas.Int.{ints, to_z-of_z}
+use Rattle.std.proofs.lemmas.Int.{to_z-of_z}
 use mir.Syntax.{w128}
 use Rattle.po_base.specs.declared.operand.Opnd.TheVariants.{Num}
 use Rattle.po_app.specs.Lowered.{Appends}

@@ -1,4 +1,4 @@
-use Rattle.std.proofs.Common.{◌≡◌, ℤ, FitsSigned, refl, rules, arith}
+use Rattle.std.proofs.Common.{FitsSigned, refl, rules, arith}
 use Rattle.std.specs.Prelude.{◌-ℤ◌}
 use mir.Syntax.{w128}
 use Rattle.std.proofs.lemmas.Int.{to_z-of_z, ints}

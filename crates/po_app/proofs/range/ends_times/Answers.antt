@@ -1,8 +1,7 @@
-use Rattle.std.proofs.Common.{◌≡◌, ◌≤◌, ◌^◌, ℤ, FitsSigned, refl, rules, lit<, arith}
+use Rattle.std.proofs.Common.{◌^◌, FitsSigned, refl, rules, lit<}
 use Rattle.std.specs.Prelude.{◌*ℤ◌}
-use Rattle.std.specs.Int.RustNames.{unsigned_abs}
 use mir.Syntax.{w128}
-use Rattle.std.proofs.lemmas.Int.{to_z-of_z, fits_signed_mul, ints}
+use Rattle.std.proofs.lemmas.Int.{to_z-of_z, fits_signed_mul}
 use Rattle.po_app.proofs.Sizes.{size_of_range}
 use Rattle.po_app.proofs.range.ends_times.Goals as goal
 

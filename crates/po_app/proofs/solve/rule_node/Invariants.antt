@@ -1,4 +1,4 @@
-use Rattle.std.proofs.Common.{◌≡◌, [], ◌∷◌, take}
+use Rattle.std.proofs.Common.{[], ◌∷◌, take}
 use Rattle.po_app.specs.Obligations.{each_from, primary}
 use Rattle.po_app.specs.Rulings.{Rules}
 use Rattle.po_app.proofs.solve.rule_node.Given as goal

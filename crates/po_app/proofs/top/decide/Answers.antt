@@ -1,4 +1,3 @@
-use Rattle.std.proofs.Common.{rules}
 use Rattle.po_app.proofs.Outcomes.{answers_usage, answers_decided, answers_too_long, answers_read_fault}
 use Rattle.po_app.proofs.top.decide.Goals as goal
 

@@ -1,5 +1,5 @@
 use Rattle.po_app.specs.Outcome.{reported}
-use Rattle.po_app.proofs.Outcomes.{all_counted, decides_not_served}
+use Rattle.po_app.proofs.Outcomes.{decides_not_served}
 use Rattle.po_app.proofs.top.judge.Goals as goal
 
 pub returns-in_ok-report_on-in-Some : goal.returns-in_ok-report_on-in-Some

@@ -11,5 +11,5 @@ returns-in-Ok-clause-write_fault g c = λ is. write_fault_rose _ _ _ _ _ c.in-Ok
 pub returns-in-Ok-clause-complete : goal.returns-in-Ok-clause-complete
 returns-in-Ok-clause-complete g c = λ name bytes ds check holds short file no_read no_write.
     completes _ _ _ _ _ name bytes ds (ends_told _ _ _ _ _ _ _ c.in-Ok.ensures.decided c.tell.ensures.told) check holds short file
-        (λ is. no_read (c.in-Ok.ensures.read_fault (read_fault_decided _ _ _ _ _ c.tell.ensures.told is) name check))
-        (λ is. no_write (write_fault_rose _ _ _ _ _ c.in-Ok.ensures.decided c.tell.ensures.fault is))
+    (λ is. no_read (c.in-Ok.ensures.read_fault (read_fault_decided _ _ _ _ _ c.tell.ensures.told is) name check))
+    (λ is. no_write (write_fault_rose _ _ _ _ _ c.in-Ok.ensures.decided c.tell.ensures.fault is))
