@@ -3,6 +3,7 @@ mod Corners
 mod Each
 mod Lowers
 mod Never
+mod One
 mod Outcomes
 mod Pairs
 mod Reached

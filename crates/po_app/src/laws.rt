@@ -4,6 +4,8 @@ ghost use Rattle.po_straight.specs.Definitions.{IsFile};
 ghost use Rattle.po_ir.specs.declared.project.Function.{Function as FunctionOf};
 ghost use Rattle.po_ir.specs.declared.project.Project.{Project as ProjectOf};
 ghost use Rattle.po_app.specs.declared.report.Report.{Report as ReportOf};
+ghost use Rattle.po_app.specs.declared.status.Status.{Status as StatusOf};
+ghost use Rattle.po_app.specs.Outcome.{IsReported};
 ghost use Rattle.po_app.specs.Lowering.{IsProject};
 ghost use Rattle.po_app.specs.Obligations.{IsReport};
 ghost use Rattle.po_app.specs.Meaning.{Value, State, Run, GoesOn};
@@ -24,4 +26,9 @@ pub fn runs_go_on()
 /// Every function can be started with every choice of ints for its parameters, as long as reports assume nothing.
 pub fn every_call_starts()
     ensures { (p : ProjectOf) (r : ReportOf) (f : ℕ) (g : FunctionOf) (args : List Value) → IsReport p r → slice_get p.functions f ≡ Some g → length args ≡ g.graph.params → All IsInt args → (s : State) × Starts p r s × (s.top.fun ≡ f) × (s.top.args ≡ args) }
+{}
+
+/// Definitions have one report: its text and its status are a function of them and of the file's name.
+pub fn report_is_one()
+    ensures { (name : List ℕ) (ds : List DefinitionOf) (s t : StatusOf) (text other : List ℕ) → IsReported name ds s text → IsReported name ds t other → (s ≡ t) × (text ≡ other) }
 {}

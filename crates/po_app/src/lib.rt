@@ -16,6 +16,6 @@ mod status;
 mod top;
 mod words;
 
-pub use laws::{every_call_starts, report_is_sound, runs_go_on};
+pub use laws::{every_call_starts, report_is_one, report_is_sound, runs_go_on};
 pub use status::Status;
 pub use top::run;
