@@ -7,8 +7,8 @@ use crate::discharge::verdict;
 use crate::pred::Pred;
 use crate::primary::predicates;
 use crate::report::{Cause, Obl, Report, Ruling};
-use po_base::{FunNo, List, Memory, NodeNo};
-use po_ir::{Function, Node, Project};
+use po_base::{FunNo, List, Memory, NodeNo, Op};
+use po_ir::{Function, Instr, Node, Project};
 use std::alloc::Global;
 
 /// The ruling on a predicate of a node, by its place among the node's.
@@ -61,12 +61,36 @@ fn rule_function(
     Ok(())
 }
 
+/// How many obligations an instruction has, at most.
+fn most_asked(instr: &Instr) -> usize {
+    match instr {
+        Instr::Bin {
+            op: Op::Div | Op::Rem,
+            ..
+        } => 2,
+        Instr::Bin { .. } => 1,
+        Instr::Return { .. } => 0,
+    }
+}
+
+/// For how many rulings there is to be room. It is a hint alone, which spares copying the list as it grows.
+fn room_for(project: &Project) -> usize {
+    let mut room = 0usize;
+    for function in project.functions.as_slice() {
+        for node in function.graph.nodes.as_slice() {
+            room = room.saturating_add(most_asked(&node.instr));
+        }
+    }
+    room
+}
+
 /// The report of a project, in time and memory linear in its nodes.
 pub(crate) fn solve(alloc: Global, project: &Project) -> Result<Report, Memory>
     requires { IsSmallProject project.now }
     ensures { IfOk result (IsReport project.now) }
 {
     let mut rulings = List::new(alloc);
+    rulings.reserve(room_for(project))?;
     for (fun, function) in project.functions.as_slice().iter().enumerate() {
         rule_function(alloc, FunNo(fun as u32), function, &mut rulings)?;
     }
