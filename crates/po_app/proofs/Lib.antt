@@ -10,3 +10,4 @@ mod Reached
 mod Sizes
 mod Small
 mod Soundness
+mod Writing

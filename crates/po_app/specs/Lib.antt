@@ -10,4 +10,5 @@ pub mod Exit
 pub mod Ranges
 pub mod Corners
 pub mod Rulings
+pub mod Written
 pub mod Lowered

@@ -15,9 +15,12 @@ use Rattle.po_app.specs.Command.{IsCheck, usage_text}
 abbrev pub named_text : List ℕ → List ℕ → List ℕ
 named_text what name = what ++ name ++ codes "\n"
 
--- open where an obligation is left open, and clean otherwise
+-- open where so many obligations are left open, and clean where none is
+abbrev pub status_by : ℕ → Status
+status_by count = cond (count == 0) Clean Open
+
 abbrev pub status_of : Report → Status
-status_of r = cond (count_of says_open r.rulings == 0) Clean Open
+status_of r = status_by (count_of says_open r.rulings)
 
 -- the text is that of the report on these definitions, and the status says whether it leaves an obligation open
 pub record IsReported (name : List ℕ) (ds : List Definition) (status : Status) (text : List ℕ) : Type 0 where

@@ -13,6 +13,7 @@ mod report_text;
 mod solve;
 mod spell;
 mod status;
+mod tally;
 mod top;
 mod words;
 

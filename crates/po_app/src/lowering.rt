@@ -1,4 +1,4 @@
-ghost use Rattle.std.specs.Prelude.{◌≡◌, ◌+◌, ◌<◌, ◌^◌, ◌++◌, length, map, replicate, All, IfOk, OnOk};
+ghost use Rattle.std.specs.Prelude.{◌≡◌, ◌+◌, ◌<◌, ◌^◌, ◌++◌, length, map, replicate, All, IfOk, OnOk, codes};
 ghost use Rattle.po_straight.specs.Definitions.{operators};
 ghost use Rattle.po_app.specs.Lowering.{node_at, parameter_register, temporary_register, IsFunction, IsGraph, IsProject};
 ghost use Rattle.po_app.specs.Lowered.{Appends, IsCounted, IsSmallGraph};
@@ -107,9 +107,15 @@ fn graph(alloc: Global, file: &Text, definition: &Definition) -> Result<Graph, M
     })
 }
 
-/// The function of a definition.
-fn function(alloc: Global, file: &Text, definition: &Definition) -> Result<Function, Memory>
-    requires { IsCounted definition.now }
+/// The function of a definition, whose result has the type that is spelled `int`.
+fn function(
+    alloc: Global,
+    file: &Text,
+    int: &Text,
+    definition: &Definition,
+) -> Result<Function, Memory>
+    requires int { int.now ≡ codes "i32" }
+    requires counted { IsCounted definition.now }
     ensures function { IfOk result (IsFunction file.now definition.now) }
     ensures small { IfOk result IsSmallFunction }
 {
@@ -118,9 +124,7 @@ fn function(alloc: Global, file: &Text, definition: &Definition) -> Result<Funct
         file: FileNo(0),
         name: definition.name.share()?,
         local: false,
-        result: CTypeText {
-            text: Text::new(alloc, b"i32")?,
-        },
+        result: CTypeText { text: int.share()? },
         graph,
     })
 }
@@ -138,9 +142,11 @@ pub(crate) fn project(
 {
     let mut files = List::new(alloc);
     files.push(file.share()?)?;
+    let int = Text::new(alloc, b"i32")?;
     let mut functions = List::new(alloc);
+    functions.reserve(definitions.len())?;
     for definition in definitions.as_slice() {
-        functions.push(function(alloc, file, definition)?)?;
+        functions.push(function(alloc, file, &int, definition)?)?;
     }
     Ok(Project { files, functions })
 }

@@ -2,12 +2,14 @@ ghost use Rattle.std.specs.Prelude.{◌≡◌, ◌++◌, IfOk, OnOk, Some};
 ghost use Rattle.std.specs.List.{flat_map};
 ghost use Rattle.po_app.specs.Obligations.{caused as predicate_caused};
 ghost use Rattle.po_app.specs.ReportText as shown;
+ghost use Rattle.po_app.specs.Written.{tally_text};
 
 use crate::out::Out;
 use crate::pred::Pred;
 use crate::primary::predicates;
-use crate::report::{Assumption, Cause, Obl, Report, Rule, Ruling, Verdict};
+use crate::report::{Cause, Obl, Rule, Ruling, Verdict};
 use crate::spell::add_predicate;
+use crate::tally::Tally;
 use po_base::Memory;
 use po_ir::{Function, Node, Project, Reg};
 use std::alloc::Global;
@@ -113,43 +115,6 @@ fn add_ruling(
     add_line(out, function, node, &predicate, ruling)
 }
 
-/// Adds the line of an assumption of a function of the project.
-fn add_assumption(out: &mut Out, project: &Project, assumption: &Assumption) -> Result<(), Memory>
-    ensures { OnOk result (out.new ≡ out.old ++ shown.assumption_text project.now assumption.now) }
-{
-    let Some(function) = project.functions.get(assumption.fun.0 as usize) else {
-        return Ok(());
-    };
-    let Some(file) = project.files.get(function.file.0 as usize) else {
-        return Ok(());
-    };
-    out.add(b"assume ")?;
-    out.add(file.bytes())?;
-    out.add(b" ")?;
-    out.add(function.name.bytes())?;
-    out.add(b" ")?;
-    add_predicate(out, function.graph.regs.as_slice(), &assumption.pred)?;
-    out.add(b"\n")
-}
-
-fn is_closed(verdict: &Verdict) -> bool
-    ensures { result ≡ shown.says_closed verdict.now }
-{
-    matches!(verdict, Verdict::Closed(_))
-}
-
-fn is_delegated(verdict: &Verdict) -> bool
-    ensures { result ≡ shown.says_delegated verdict.now }
-{
-    matches!(verdict, Verdict::Delegated(_))
-}
-
-fn is_open(verdict: &Verdict) -> bool
-    ensures { result ≡ shown.says_open verdict.now }
-{
-    matches!(verdict, Verdict::Open)
-}
-
 fn add_counted(out: &mut Out, label: &[u8], count: usize) -> Result<(), Memory>
     ensures { OnOk result (out.new ≡ out.old ++ shown.counted_text label.now count) }
 {
@@ -157,37 +122,20 @@ fn add_counted(out: &mut Out, label: &[u8], count: usize) -> Result<(), Memory>
     out.add_count(count)
 }
 
-fn count_closed(rulings: &[Ruling]) -> usize
-    ensures { result ≡ shown.count_of shown.says_closed rulings.now }
-{
-    rulings.iter().filter(|x| is_closed(&x.verdict)).count()
-}
-
-fn count_delegated(rulings: &[Ruling]) -> usize
-    ensures { result ≡ shown.count_of shown.says_delegated rulings.now }
-{
-    rulings.iter().filter(|x| is_delegated(&x.verdict)).count()
-}
-
-/// How many obligations are left open.
-pub(crate) fn count_open(rulings: &[Ruling]) -> usize
-    ensures { result ≡ shown.count_of shown.says_open rulings.now }
-{
-    rulings.iter().filter(|x| is_open(&x.verdict)).count()
-}
-
 /// Adds the line of the totals.
-fn add_total(out: &mut Out, rulings: &[Ruling]) -> Result<(), Memory>
-    ensures { OnOk result (out.new ≡ out.old ++ shown.total_text rulings.now) }
+pub(crate) fn add_total(out: &mut Out, tally: &Tally) -> Result<(), Memory>
+    ensures { OnOk result (out.new ≡ out.old ++ tally_text tally.now) }
 {
-    add_counted(out, b"total ", rulings.len())?;
-    add_counted(out, b" closed ", count_closed(rulings))?;
-    add_counted(out, b" delegated ", count_delegated(rulings))?;
-    add_counted(out, b" open ", count_open(rulings))?;
+    add_counted(out, b"total ", tally.listed)?;
+    add_counted(out, b" closed ", tally.closed)?;
+    add_counted(out, b" delegated ", tally.delegated)?;
+    add_counted(out, b" open ", tally.left_open)?;
     out.add(b"\n")
 }
 
-fn add_rulings(
+/// Adds the lines of rulings on obligations of the project. In time linear in the text and, for the numbers of
+/// temporaries, in the registers of each line's function.
+pub(crate) fn add_rulings(
     alloc: Global,
     out: &mut Out,
     project: &Project,
@@ -199,33 +147,4 @@ fn add_rulings(
         add_ruling(alloc, out, project, ruling)?;
     }
     Ok(())
-}
-
-fn add_assumptions(
-    out: &mut Out,
-    project: &Project,
-    assumptions: &[Assumption],
-) -> Result<(), Memory>
-    ensures { OnOk result (out.new ≡ out.old ++ flat_map (shown.assumption_text project.now) assumptions.now) }
-{
-    for assumption in assumptions {
-        add_assumption(out, project, assumption)?;
-    }
-    Ok(())
-}
-
-/// The text of a report on a project. In time linear in the text and, for the numbers of temporaries, in the
-/// registers of each line's function.
-pub(crate) fn report_text(
-    alloc: Global,
-    project: &Project,
-    report: &Report,
-) -> Result<Vec<u8>, Memory>
-    ensures { IfOk result (λ text. text.items ≡ shown.report_text project.now report.now) }
-{
-    let mut out = Out::new(alloc);
-    add_rulings(alloc, &mut out, project, report.rulings.as_slice())?;
-    add_assumptions(&mut out, project, report.assumptions.as_slice())?;
-    add_total(&mut out, report.rulings.as_slice())?;
-    Ok(out.into_bytes())
 }

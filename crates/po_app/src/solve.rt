@@ -1,15 +1,26 @@
 ghost use Rattle.std.specs.Prelude.{◌≡◌, ◌<◌, ◌^◌, [], length, IfOk, OnOk, Some, slice_get};
-ghost use Rattle.po_app.specs.Obligations.{IsReport, IsRuling, primary, node_obligations, function_obligations};
+ghost use Rattle.po_app.specs.Obligations.{IsRuling, primary, node_obligations, function_obligations, obligations};
 ghost use Rattle.po_app.specs.Ranges.{IsSmallFunction, IsSmallInstr, IsSmallPredicate, IsSmallProject};
 ghost use Rattle.po_app.specs.Rulings.{Rules};
+ghost use Rattle.po_app.specs.Written.{Writes, HasReport};
 
 use crate::discharge::verdict;
+use crate::out::Out;
 use crate::pred::Pred;
 use crate::primary::predicates;
-use crate::report::{Cause, Obl, Report, Ruling};
-use po_base::{FunNo, List, Memory, NodeNo, Op};
-use po_ir::{Function, Instr, Node, Project};
+use crate::report::{Cause, Obl, Ruling};
+use crate::report_text::{add_rulings, add_total};
+use crate::tally::Tally;
+use po_base::{FunNo, List, Memory, NodeNo};
+use po_ir::{Function, Node, Project};
 use std::alloc::Global;
+
+/// The text of a report, and how many obligations it leaves open.
+#[derive(Drop)]
+pub(crate) struct WrittenReport {
+    pub(crate) text: Vec<u8>,
+    pub(crate) left_open: usize,
+}
 
 /// The ruling on a predicate of a node, by its place among the node's.
 fn rule(fun: FunNo, node: NodeNo, place: u32, predicate: &Pred) -> Ruling
@@ -61,41 +72,52 @@ fn rule_function(
     Ok(())
 }
 
-/// How many obligations an instruction has, at most.
-fn most_asked(instr: &Instr) -> usize {
-    match instr {
-        Instr::Bin {
-            op: Op::Div | Op::Rem,
-            ..
-        } => 2,
-        Instr::Bin { .. } => 1,
-        Instr::Return { .. } => 0,
-    }
-}
-
-/// For how many rulings there is to be room. It is a hint alone, which spares copying the list as it grows.
-fn room_for(project: &Project) -> usize {
-    let mut room = 0usize;
-    for function in project.functions.as_slice() {
-        for node in function.graph.nodes.as_slice() {
-            room = room.saturating_add(most_asked(&node.instr));
-        }
-    }
-    room
-}
-
-/// The report of a project, in time and memory linear in its nodes.
-pub(crate) fn solve(alloc: Global, project: &Project) -> Result<Report, Memory>
-    requires { IsSmallProject project.now }
-    ensures { IfOk result (IsReport project.now) }
+/// Writes the lines of a function's obligations and counts their verdicts. The rulings are kept no longer.
+fn write_function(
+    alloc: Global,
+    project: &Project,
+    fun: FunNo,
+    function: &Function,
+    out: &mut Out,
+    tally: &mut Tally,
+) -> Result<(), Memory>
+    requires { IsSmallFunction function.now }
+    ensures { OnOk result (Writes project.now (function_obligations fun.0 function.now) out.old tally.old out.new tally.new) }
 {
     let mut rulings = List::new(alloc);
-    rulings.reserve(room_for(project))?;
+    rule_function(alloc, fun, function, &mut rulings)?;
+    add_rulings(alloc, out, project, rulings.as_slice())?;
+    tally.add(rulings.as_slice())
+}
+
+/// Writes the lines of all obligations.
+fn write_functions(
+    alloc: Global,
+    project: &Project,
+    out: &mut Out,
+    tally: &mut Tally,
+) -> Result<(), Memory>
+    requires { IsSmallProject project.now }
+    ensures { OnOk result (Writes project.now (obligations project.now) out.old tally.old out.new tally.new) }
+{
     for (fun, function) in project.functions.as_slice().iter().enumerate() {
-        rule_function(alloc, FunNo(fun as u32), function, &mut rulings)?;
+        write_function(alloc, project, FunNo(fun as u32), function, out, tally)?;
     }
-    Ok(Report {
-        rulings,
-        assumptions: List::new(alloc),
+    Ok(())
+}
+
+/// The text of a project's report, and how many obligations it leaves open. In time linear in the nodes and the
+/// text; beside the text it keeps the rulings of one function at a time.
+pub(crate) fn written_report(alloc: Global, project: &Project) -> Result<WrittenReport, Memory>
+    requires { IsSmallProject project.now }
+    ensures { IfOk result (λ written. HasReport project.now written.text.items written.left_open) }
+{
+    let mut out = Out::new(alloc);
+    let mut tally = Tally::new();
+    write_functions(alloc, project, &mut out, &mut tally)?;
+    add_total(&mut out, &tally)?;
+    Ok(WrittenReport {
+        text: out.into_bytes(),
+        left_open: tally.left_open,
     })
 }

@@ -9,18 +9,18 @@ ghost use Rattle.po_app.specs.Obligations.{IsReport};
 ghost use Rattle.po_app.specs.Sound.{Sound};
 ghost use Rattle.po_app.specs.Command.{IsCheck};
 ghost use Rattle.po_app.specs.Lowered.{IsCounted};
-ghost use Rattle.po_app.specs.Outcome.{named_text, status_of as status_of_report, IsReported, IsReportOrNoMemory, Decides, Answers, Ends, Told};
+ghost use Rattle.po_app.specs.Ranges.{IsSmallProject};
+ghost use Rattle.po_app.specs.Outcome.{named_text, status_by, IsReported, IsReportOrNoMemory, Decides, Answers, Ends, Told};
 
 use crate::laws::report_is_sound;
 use crate::lowering::project;
 use crate::out::Out;
-use crate::report::Report;
-use crate::report_text::{count_open, report_text};
-use crate::solve::solve;
+use crate::solve::written_report;
 use crate::status::Status;
 use crate::words::file_to_check;
 use po_base::{List, Memory, Text};
 use po_io::{Files, ReadFail, Sink, read_file, write_all};
+use po_ir::Project;
 use po_straight::{Definition, read_definitions};
 use std::alloc::Global;
 
@@ -45,27 +45,36 @@ fn line_of(alloc: Global, what: &[u8], name: &str) -> Result<Vec<u8>, Memory>
     Ok(out.into_bytes())
 }
 
-/// The report on the definitions of a file.
-fn report_on(alloc: Global, name: &str, definitions: &List<Definition>) -> Result<Decision, Memory>
-    requires few { length definitions.now < 2 ^ 32 }
-    requires counted { All IsCounted definitions.now }
-    ensures { IfOk result (λ decision. IsReported name.now definitions.now decision.status decision.text.items) }
+/// The project of definitions, which are kept no longer.
+fn lowered(alloc: Global, name: &str, definitions: List<Definition>) -> Result<Project, Memory>
+    requires few { length definitions < 2 ^ 32 }
+    requires counted { All IsCounted definitions }
+    ensures project { IfOk result (IsProject name.now definitions) }
+    ensures small { IfOk result IsSmallProject }
 {
     let file = Text::new(alloc, name.as_bytes())?;
-    let project = project(alloc, &file, definitions)?;
-    let report = solve(alloc, &project)?;
-    let text = report_text(alloc, &project, &report)?;
+    Ok(project(alloc, &file, &definitions)?)
+}
+
+/// The report on the definitions of a file.
+fn report_on(alloc: Global, name: &str, definitions: List<Definition>) -> Result<Decision, Memory>
+    requires few { length definitions < 2 ^ 32 }
+    requires counted { All IsCounted definitions }
+    ensures { IfOk result (λ decision. IsReported name.now definitions decision.status decision.text.items) }
+{
+    let project = lowered(alloc, name, definitions)?;
+    let written = written_report(alloc, &project)?;
     Ok(Decision {
-        status: status_of(&report),
-        text,
+        status: status_of(written.left_open),
+        text: written.text,
     })
 }
 
 /// Open where an obligation is left open, and clean otherwise.
-fn status_of(report: &Report) -> Status
-    ensures { result ≡ status_of_report report.now }
+fn status_of(left_open: usize) -> Status
+    ensures { result ≡ status_by left_open }
 {
-    if count_open(report.rulings.as_slice()) == 0 {
+    if left_open == 0 {
         Status::Clean
     } else {
         Status::Open
@@ -78,7 +87,7 @@ fn judge(alloc: Global, name: &str, bytes: &[u8]) -> Result<Decision, Memory>
     ensures { IfOk result (λ decision. Decides name.now bytes.now decision.status decision.text.items) }
 {
     match read_definitions(alloc, bytes)? {
-        Some(definitions) => Ok(report_on(alloc, name, &definitions)?),
+        Some(definitions) => Ok(report_on(alloc, name, definitions)?),
         None => Ok(Decision {
             status: Status::Refused,
             text: line_of(alloc, b"refused not-yet ", name)?,
