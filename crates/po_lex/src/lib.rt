@@ -1,0 +1,14 @@
+//! Tokens and pieces of the text that a C preprocessor writes: the one division of a file's bytes into blanks,
+//! comments, directives and tokens; the tokens that are kept; and the division of these into declarations.
+#![tactic(auto)]
+
+mod bytes;
+mod directive;
+mod effect;
+mod lead;
+mod row;
+mod sign;
+
+pub use effect::Effect;
+pub use lead::Lead;
+pub use row::Row;
