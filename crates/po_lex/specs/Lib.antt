@@ -2,3 +2,4 @@ pub mod Bytes
 pub mod Rows
 pub mod Leads
 pub mod Directives
+pub mod Division

@@ -161,7 +161,13 @@ fn marker(alloc: Global, line: &[u8], at: usize) -> Result<Option<Effect>, Memor
     requires { at ≤ length line.now }
     ensures { IfOk result (λ found. found ≡ marker (drop at line.now)) }
 {
-    named(alloc, line, after_digits(line, at), number(line, at), Row::Flags)
+    named(
+        alloc,
+        line,
+        after_digits(line, at),
+        number(line, at),
+        Row::Flags,
+    )
 }
 
 /// The number of a line and its name, where one stands, after the word `line`.

@@ -6,9 +6,12 @@ mod bytes;
 mod directive;
 mod effect;
 mod lead;
+mod part;
+mod place;
 mod row;
 mod sign;
 
 pub use effect::Effect;
 pub use lead::Lead;
+pub use place::Place;
 pub use row::Row;

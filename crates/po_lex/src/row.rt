@@ -58,13 +58,7 @@ fn behind(row: Row, before: u8, byte: u8) -> u8
     ensures { result ≡ behind row before byte }
 {
     match row {
-        Row::Literal(_) => {
-            if before == b'\\' {
-                0
-            } else {
-                byte
-            }
-        }
+        Row::Literal(_) => { if before == b'\\' { 0 } else { byte } }
         _ => byte,
     }
 }

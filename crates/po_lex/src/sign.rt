@@ -3,9 +3,10 @@ ghost use Rattle.po_lex.specs.Leads.{longest, signs};
 
 /// The punctuators of C99 6.4.6, without `#`, `##` and the digraphs.
 const SIGNS: [&[u8]; 46] = [
-    b"[", b"]", b"(", b")", b"{", b"}", b".", b"->", b"++", b"--", b"&", b"*", b"+", b"-", b"~", b"!", b"/", b"%", b"<<",
-    b">>", b"<", b">", b"<=", b">=", b"==", b"!=", b"^", b"|", b"&&", b"||", b"?", b":", b";", b"...", b"=", b"*=", b"/=",
-    b"%=", b"+=", b"-=", b"<<=", b">>=", b"&=", b"^=", b"|=", b",",
+    b"[", b"]", b"(", b")", b"{", b"}", b".", b"->", b"++", b"--", b"&", b"*", b"+", b"-", b"~",
+    b"!", b"/", b"%", b"<<", b">>", b"<", b">", b"<=", b">=", b"==", b"!=", b"^", b"|", b"&&",
+    b"||", b"?", b":", b";", b"...", b"=", b"*=", b"/=", b"%=", b"+=", b"-=", b"<<=", b">>=",
+    b"&=", b"^=", b"|=", b",",
 ];
 
 /// The length of the longest of these texts with which the bytes begin, 0 where they begin with none. Time linear
