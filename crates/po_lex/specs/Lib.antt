@@ -3,3 +3,4 @@ pub mod Rows
 pub mod Leads
 pub mod Directives
 pub mod Division
+pub mod Lexing

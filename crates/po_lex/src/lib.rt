@@ -6,6 +6,7 @@ mod bytes;
 mod directive;
 mod effect;
 mod lead;
+mod lexing;
 mod part;
 mod place;
 mod row;
@@ -13,5 +14,6 @@ mod sign;
 
 pub use effect::Effect;
 pub use lead::Lead;
+pub use lexing::{LexFail, tokens};
 pub use place::Place;
 pub use row::Row;
