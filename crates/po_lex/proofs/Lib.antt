@@ -1,3 +1,4 @@
 mod Rows
 mod Directives
 mod Parts
+mod Fronts

@@ -42,6 +42,9 @@ same_effect l.Char fresh text x y h k = h ∙ sym k
 same_effect l.Str fresh text x y h k = h ∙ sym k
 same_effect l.Sign fresh text x y h k = h ∙ sym k
 
+abbrev made : Lead → List ℕ → Effect → Part
+made lead text effect = record { lead = lead; text = text; effect = effect }
+
 pub one_part : (fresh : Bool) (bytes : List ℕ) (x y : Part) (r s : List ℕ) → Stands fresh bytes x r → Stands fresh bytes y s → (x ≡ y) × (r ≡ s)
 one_part fresh bytes x y r s h k =
     let left : r ≡ s = same_rest fresh bytes s y.lead x r k.begun k.ended h in
@@ -50,4 +53,4 @@ one_part fresh bytes x y r s h k =
     let said : IsSaid y.lead fresh y.text x.effect =
     subst (λ v. IsSaid y.lead fresh v x.effect) text (subst (λ v. IsSaid v fresh x.text x.effect) lead h.said) in
     let effect : x.effect ≡ y.effect = same_effect y.lead fresh y.text x.effect y.effect said k.said in
-    (cc, left)
+    (ap (λ v. made v x.text x.effect) lead ∙ ap (λ v. made y.lead v x.effect) text ∙ ap (λ v. made y.lead y.text v) effect, left)
