@@ -4,3 +4,4 @@ pub mod Leads
 pub mod Directives
 pub mod Division
 pub mod Lexing
+pub mod Brackets

@@ -11,9 +11,11 @@ mod part;
 mod place;
 mod row;
 mod sign;
+mod walk;
 
 pub use effect::Effect;
 pub use lead::Lead;
 pub use lexing::{LexFail, tokens};
 pub use place::Place;
 pub use row::Row;
+pub use walk::Open;
