@@ -2,3 +2,4 @@ mod Rows
 mod Directives
 mod Parts
 mod Fronts
+mod Walks

@@ -5,3 +5,6 @@ pub mod Directives
 pub mod Division
 pub mod Lexing
 pub mod Brackets
+pub mod Pieces
+pub mod Shapes
+pub mod Keeping

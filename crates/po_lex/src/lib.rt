@@ -5,17 +5,21 @@
 mod bytes;
 mod directive;
 mod effect;
+mod keeping;
 mod lead;
 mod lexing;
 mod part;
+mod shape;
 mod place;
 mod row;
 mod sign;
 mod walk;
 
 pub use effect::Effect;
+pub use keeping::Mood;
 pub use lead::Lead;
 pub use lexing::{LexFail, tokens};
+pub use shape::{Piece, ShapeFail, pieces};
 pub use place::Place;
 pub use row::Row;
 pub use walk::Open;

@@ -62,7 +62,7 @@ pub(crate) fn mark(token: &Token) -> u8
 }
 
 /// The byte of the bracket that closes an opening one, or 0.
-fn closer(byte: u8) -> u8
+pub(crate) fn closer(byte: u8) -> u8
     ensures { result ≡ closer byte }
 {
     match byte {
@@ -74,7 +74,7 @@ fn closer(byte: u8) -> u8
 }
 
 /// Whether a byte is a closing bracket.
-fn is_closer(byte: u8) -> bool
+pub(crate) fn is_closer(byte: u8) -> bool
     ensures { result ≡ is_closer byte }
 {
     byte == b')' || byte == b']' || byte == b'}'
