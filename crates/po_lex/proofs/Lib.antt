@@ -3,3 +3,5 @@ mod Directives
 mod Parts
 mod Fronts
 mod Walks
+mod Remains
+mod Unique

@@ -8,3 +8,4 @@ pub mod Brackets
 pub mod Pieces
 pub mod Shapes
 pub mod Keeping
+pub mod Laws

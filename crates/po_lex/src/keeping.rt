@@ -265,3 +265,44 @@ fn put_kept(
     list.push(same(first)?)?;
     put_all(list, held)
 }
+
+/// The same names, whose bytes aren't copied. Time linear in their number.
+fn same_names(alloc: Global, names: &List<Text>) -> Result<List<Text>, Memory>
+    ensures { IfOk result (λ copy. copy ≡ names.now) }
+{
+    let names = names.as_slice();
+    let mut copy = List::new(alloc);
+    for name in names {
+        copy.push(name.share()?)?;
+    }
+    Ok(copy)
+}
+
+/// The kept tokens of a file, and its names: `__extension__`, `__restrict` and `__restrict__` are dropped, and so are
+/// `__attribute__` with its double parentheses, unless they hold a word that changes a layout or a type, and outside
+/// brackets `__asm__` with its parentheses behind a word, a `)` or a `]`. `__inline` and `__inline__` are read as
+/// `inline`, `__const` as `const`. Texts are handed on and not copied. Time is linear in the tokens where brackets match;
+/// where they don't, each `__attribute__` and `__asm__` looks ahead as far as its brackets do match. Memory is linear in
+/// the tokens.
+pub fn kept(alloc: Global, tokens: &Tokens) -> Result<Tokens, Memory>
+    requires { length tokens.now.list < 2 ^ 31 }
+    ensures kept { IfOk result (λ kept. Keeps at_start tokens.now.list kept.list) }
+    ensures names { IfOk result (λ kept. kept.names ≡ tokens.now.names) }
+{
+    let read = tokens.list.as_slice();
+    let mut list = List::new(alloc);
+    let mut mood = Mood {
+        depth: 0,
+        after: false,
+    };
+    let mut at = 0;
+    while at < read.len() {
+        let first = &read[at];
+        let end = at + mood.size(alloc, first, &read[at + 1..])?;
+        put_kept(alloc, &mut list, first, &read[at + 1..end])?;
+        mood = mood.advance(&read[at..end]);
+        at = end;
+    }
+    let names = same_names(alloc, &tokens.names)?;
+    Ok(Tokens { list, names })
+}

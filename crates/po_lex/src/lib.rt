@@ -6,6 +6,7 @@ mod bytes;
 mod directive;
 mod effect;
 mod keeping;
+mod laws;
 mod lead;
 mod lexing;
 mod part;
@@ -16,7 +17,8 @@ mod sign;
 mod walk;
 
 pub use effect::Effect;
-pub use keeping::Mood;
+pub use keeping::{Mood, kept};
+pub use laws::{one_division, one_failure, one_kept_list, one_token_list, pieces_cover, texts_stand_in_order, tokens_or_failure};
 pub use lead::Lead;
 pub use lexing::{LexFail, tokens};
 pub use shape::{Piece, ShapeFail, pieces};
