@@ -92,10 +92,10 @@ in_order_after [] gap rest h = tt
 in_order_after (x ∷ xs) gap rest h =
     (gap ++ h.0, h.1, ap (λ v. gap ++ v) h.2 ∙ sym (append_assoc gap h.0 (x ++ h.1)), h.3)
 
-texts_of : (kind : Option TokenKind) (p : Place) (text rest bytes : List ℕ) (more : List Token) → bytes ≡ text ++ rest →
-    StandInOrder (map (λ t. t.text) more) rest → StandInOrder (map (λ t. t.text) (as_token kind p text ++ more)) bytes
-texts_of None p text rest bytes more q h = subst (StandInOrder (map (λ t. t.text) more)) (sym q) (in_order_after (map (λ t. t.text) more) text rest h)
-texts_of (Some kind) p text rest bytes more q h = ([], rest, q, h)
+texts_of : (kind : Option TokenKind) (p : Place) (text rest bytes : List ℕ) (others : List Token) → bytes ≡ text ++ rest →
+    StandInOrder (map (λ t. t.text) others) rest → StandInOrder (map (λ t. t.text) (as_token kind p text ++ others)) bytes
+texts_of None p text rest bytes others q h = subst (StandInOrder (map (λ t. t.text) others)) (sym q) (in_order_after (map (λ t. t.text) others) text rest h)
+texts_of (Some kind) p text rest bytes others q h = ([], rest, q, h)
 
 pub in_order : (p : Place) (xs : List Part) (bytes : List ℕ) → Divides p xs bytes [] → StandInOrder (map (λ t. t.text) (tokens_of p xs)) bytes
 in_order p [] bytes h = tt
@@ -104,10 +104,12 @@ in_order p (x ∷ xs) bytes h = texts_of (kind_of x.lead) p x.text h.0 bytes (to
 pub texts_in_order : (name bytes : List ℕ) (tokens : Tokens) → AreTokens name bytes tokens → StandInOrder (map (λ t. t.text) tokens.list) bytes
 texts_in_order name bytes tokens h = subst (λ v. StandInOrder (map (λ t. t.text) v) bytes) (sym h.list) (in_order start h.parts bytes h.divides)
 
+same_kept : {m : Mood} {tokens xs ys : List Token} → Keeps m tokens xs → Keeps m tokens ys → xs ≡ ys
+same_kept (nothing m) (nothing _) = refl
+same_kept (more m t us kept h) (more _ _ _ other k) = ap (λ v. kept_of (size m t us) t us ++ v) (same_kept h k)
+
 pub one_kept : (m : Mood) (tokens xs ys : List Token) → Keeps m tokens xs → Keeps m tokens ys → xs ≡ ys
-one_kept m tokens xs ys (nothing m) (nothing m) = refl
-one_kept m tokens xs ys (more m t us kept h) (more m t us other k) =
-    ap (λ v. kept_of (size m t us) t us ++ v) (one_kept _ _ kept other h k)
+one_kept m tokens xs ys h k = same_kept h k
 
 some_tokens : (tokens : List Token) (body : Bool) → IsPiece tokens body → 0 < length tokens
 some_tokens tokens body h =
