@@ -1,6 +1,6 @@
 -- Steps over a line of the preprocessor.
 use Rattle.std.proofs.Common.{◌≡◌, ℕ, ◌+◌, ◌*◌, ◌-◌, ◌^◌, ◌<◌, ◌≤◌, Bool, true, false, cond, leb, List, [], ◌∷◌, length, get_or, drop, arith, sym, ap, refl, ◌∙◌, inl, inr, rules, tests}
-use Rattle.std.specs.Prelude.{min, Option, Some, None, ◌⊎◌}
+use Rattle.std.specs.Prelude.{min, Some, None, ◌⊎◌}
 use Rattle.std.proofs.lemmas.List.{drop_more, drop_all, drop-drop}
 use Rattle.std.specs.Prelude.{Result, Ok, Err, MatchResult, is_ok, IsUtf8}
 use Rattle.std.proofs.lemmas.Bool.{cases_lt}
@@ -8,10 +8,9 @@ use Rattle.std.specs.Str.{is_utf8}
 use Rattle.std.proofs.lemmas.Str.{is_utf8-from_IsUtf8, IsUtf8-from_is_utf8}
 use Rattle.po_lex.specs.Bytes.{is_digit}
 use Rattle.po_lex.specs.Rows.{front, skip}
-use Rattle.po_lex.specs.Directives.{is_end, begins_quote, value, plain, unquoted, is_named, name_of, named}
+use Rattle.po_lex.specs.Directives.{is_end, begins_quote, value, plain, unquoted, name_of, named}
 use Rattle.po_lex.specs.declared.row.Row.{Row}
 use Rattle.po_lex.specs.declared.row.Row.TheVariants as r
-use Rattle.po_lex.specs.declared.effect.Effect.{Effect}
 use Rattle.po_lex.specs.declared.effect.Effect.TheVariants as e
 
 pub is_end_drop : (xs : List ℕ) (at : ℕ) (b : Bool) → leb (length xs) at ≡ b → (length xs ≤ at) ⊎ (at < length xs) → b ≡ is_end (drop at xs)

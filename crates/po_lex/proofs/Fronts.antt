@@ -1,14 +1,14 @@
 -- One more part of a division, and what its end and its failure mean.
-use Rattle.std.proofs.Common.{◌≡◌, ℕ, ◌+◌, ◌^◌, ◌<◌, ◌≤◌, Bool, true, false, List, [], ◌∷◌, ◌++◌, length, take, drop, arith, sym, ap, refl, ◌∙◌, subst, append_assoc, append-nil}
+use Rattle.std.proofs.Common.{◌≡◌, ℕ, ◌+◌, ◌^◌, ◌<◌, ◌≤◌, Bool, true, false, List, [], ◌∷◌, ◌++◌, length, arith, sym, ap, refl, ◌∙◌, subst, append_assoc, append-nil}
 use borrow.Author.Tests.{ltb-true}
-use Rattle.std.specs.Prelude.{◌≢◌, ◌==◌, ◌&&◌, nat_lt, Result, Ok, Err, IfOk, IfErr, OnOk}
+use Rattle.std.specs.Prelude.{◌==◌, ◌&&◌, nat_lt, Result, Ok, Err, IfOk, IfErr, OnOk}
 use Rattle.std.proofs.lemmas.List.Sums.{count_by-le-length}
 use Rattle.po_base.specs.declared.token.Token.{Token}
 use Rattle.po_base.specs.declared.token.Tokens.{Tokens}
 use Rattle.po_lex.specs.Bytes.{newlines}
 use Rattle.po_lex.specs.Leads.{kind_of}
-use Rattle.po_lex.specs.Directives.{is_proper, is_name}
-use Rattle.po_lex.specs.Division.{Part, IsSaid, Stands, NoneStands, Divides, AreTokens, Fails, HasTooMany, after, behind_all, start, as_token, tokens_of, names_of, named_by, next_line, is_directive}
+use Rattle.po_lex.specs.Directives.{is_name}
+use Rattle.po_lex.specs.Division.{Part, IsSaid, Stands, NoneStands, Divides, AreTokens, Fails, after, behind_all, start, as_token, tokens_of, names_of, named_by, next_line, is_directive}
 use Rattle.po_lex.specs.Lexing.{IsKept, IsRead, HasCause, failure}
 use Rattle.po_lex.specs.declared.lead.Lead.{Lead}
 use Rattle.po_lex.specs.declared.lead.Lead.TheVariants as l

@@ -1,5 +1,5 @@
 -- At most one part stands at a place.
-use Rattle.std.proofs.Common.{◌≡◌, ℕ, ◌≤◌, Bool, List, ◌++◌, length, take, drop, sym, ap, refl, ◌∙◌, subst}
+use Rattle.std.proofs.Common.{◌≡◌, ℕ, Bool, List, ◌++◌, take, drop, sym, ap, ◌∙◌, subst}
 use Rattle.std.specs.Prelude.{Some}
 use Rattle.std.proofs.lemmas.List.{append_cancel_left, append_cancel_right, take-append-drop}
 use Rattle.po_lex.specs.Rows.{skip}
@@ -8,7 +8,6 @@ use Rattle.po_lex.specs.Division.{Part, IsSaid, Stands, NoneStands}
 use Rattle.po_lex.specs.declared.lead.Lead.{Lead}
 use Rattle.po_lex.specs.declared.lead.Lead.TheVariants as l
 use Rattle.po_lex.specs.declared.effect.Effect.{Effect}
-use Rattle.po_lex.specs.declared.effect.Effect.TheVariants as e
 
 -- what comes after a part is told by what it is
 same_rest : (fresh : Bool) (bytes left : List ℕ) (lead : Lead) (part : Part) (rest : List ℕ) → lead ≡ lead_of bytes →

@@ -1,10 +1,10 @@
 -- Steps of the reader that keeps tokens.
-use Rattle.std.proofs.Common.{◌≡◌, ℕ, ◌+◌, ◌-◌, ◌<◌, ◌≤◌, Bool, true, false, cond, List, [], ◌∷◌, ◌++◌, length, get_or, take, drop, arith, sym, ap, refl, ◌∙◌, subst, append_assoc}
-use Rattle.std.specs.Prelude.{Option, Some, None}
-use Rattle.std.proofs.lemmas.List.{drop_more, drop-drop, take-append-drop, length-drop, length-take-le, take_all}
+use Rattle.std.proofs.Common.{◌≡◌, ℕ, ◌+◌, ◌-◌, ◌<◌, ◌≤◌, List, [], ◌∷◌, ◌++◌, length, get_or, take, drop, arith, sym, ap, refl, ◌∙◌, subst, append_assoc}
+use Rattle.std.specs.Prelude.{Some, None}
+use Rattle.std.proofs.lemmas.List.{drop_more, drop-drop, take-append-drop, length-drop, length-take-le}
 use Rattle.po_base.specs.declared.token.Token.{Token}
 use Rattle.po_lex.specs.Brackets.{State, step}
-use Rattle.po_lex.specs.Keeping.{group, Keeps, nothing, more, advance, size, kept_of, at_start}
+use Rattle.po_lex.specs.Keeping.{group, Keeps, more, advance, size, kept_of, at_start}
 use Rattle.po_lex.specs.declared.keeping.Mood.{Mood}
 
 group-none : (n : ℕ) (ts : List Token) → group n None ts ≡ 0

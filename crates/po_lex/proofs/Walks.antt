@@ -1,10 +1,10 @@
 -- Steps of a walk over tokens, and the pieces that it finds.
-use Rattle.std.proofs.Common.{◌≡◌, ℕ, ◌+◌, ◌-◌, ◌<◌, ◌≤◌, Bool, true, false, cond, List, [], ◌∷◌, ◌++◌, length, get_or, take, drop, arith, sym, ap, refl, ◌∙◌, subst, append_assoc, append-nil, inl, inr}
+use Rattle.std.proofs.Common.{◌≡◌, ℕ, ◌+◌, ◌-◌, ◌<◌, ◌≤◌, Bool, true, false, cond, List, [], ◌∷◌, ◌++◌, length, get_or, take, drop, arith, sym, ap, refl, ◌∙◌, subst, inl, inr}
 use Rattle.std.specs.Prelude.{Option, Some, None, ◌==◌, reverse}
-use Rattle.std.proofs.lemmas.List.{drop_more, drop_all, drop-drop, take-append-drop, take_more, get_or-drop, length-drop, length-take-le, take_all, reverse-append}
+use Rattle.std.proofs.lemmas.List.{drop_more, drop-drop, take-append-drop, take_more, get_or-drop, length-drop, length-take-le, take_all, reverse-append}
 use Rattle.po_base.specs.declared.token.Token.{Token}
 use Rattle.po_lex.specs.Brackets.{State, outset, step, ends, mark}
-use Rattle.po_lex.specs.Pieces.{goes, IsPiece, Divided, IsStuck, IsOpen, IsLeft, IsMisshapen}
+use Rattle.po_lex.specs.Pieces.{goes, IsPiece, Divided, IsMisshapen}
 use Rattle.po_lex.specs.declared.walk.Open.{Open}
 use Rattle.po_lex.specs.declared.shape.Piece.{Piece}
 
@@ -40,7 +40,7 @@ divided_push at (y ∷ ys) tokens end left xs rest p h q piece from to =
     (h.0, h.1, h.2, h.3, h.4, h.5, divided_push y.to ys h.1 end left xs rest p h.6 q piece from to)
 
 module _ (tokens : List Token) (from at : ℕ) (t : Token) (low : from ≤ at) (high : at < length tokens) (item : t ≡ get_or tokens at t)
-  (u : State) (so : goes (Some outset) (take (at - from) (drop from tokens)) ≡ Some u) where
+    (u : State) (so : goes (Some outset) (take (at - from) (drop from tokens)) ≡ Some u) where
   pub goes_more : (v : State) → ends u t ≡ false → step u t ≡ Some v → goes (Some outset) (take (at + 1 - from) (drop from tokens)) ≡ Some v
   goes_more v e q =
       let p = goes_push (Some outset) (take (at - from) (drop from tokens)) t u so in

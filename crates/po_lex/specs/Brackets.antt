@@ -1,5 +1,5 @@
 -- Brackets: which are open after some tokens, and where a piece ends.
-use Rattle.std.specs.Prelude.{ℕ, ◌≡◌, ◌+◌, ◌^◌, ◌<◌, ◌≤◌, Bool, true, false, cond, not, ◌==◌, ◌&&◌, ◌||◌, List, [], ◌∷◌, ◌++◌, length, reverse, Option, Some, None}
+use Rattle.std.specs.Prelude.{ℕ, Bool, true, false, cond, ◌==◌, ◌&&◌, ◌||◌, List, [], ◌∷◌, reverse, Option, Some, None}
 use Rattle.po_base.specs.declared.token.TokenKind.{TokenKind}
 use Rattle.po_base.specs.declared.token.TokenKind.TheVariants as k
 use Rattle.po_base.specs.declared.token.Token.{Token}

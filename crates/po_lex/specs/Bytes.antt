@@ -1,5 +1,5 @@
 -- Kinds of bytes (C99 5.2.1, 6.4).
-use Rattle.std.specs.Prelude.{ℕ, Bool, ◌==◌, ◌&&◌, ◌||◌, nat_le, List, [], ◌∷◌, count_by}
+use Rattle.std.specs.Prelude.{ℕ, Bool, ◌==◌, ◌&&◌, ◌||◌, nat_le, List, count_by}
 
 -- a blank within a line: space, tab, vertical tab, form feed or carriage return
 abbrev pub is_space : ℕ → Bool

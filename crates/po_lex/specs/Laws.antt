@@ -1,5 +1,5 @@
 -- What the definitions of tokens, kept tokens and pieces come to.
-use Rattle.std.specs.Prelude.{ℕ, ◌≡◌, ◌<◌, Bool, List, [], ◌∷◌, ◌++◌}
+use Rattle.std.specs.Prelude.{ℕ, ◌≡◌, ◌<◌, List, [], ◌∷◌, ◌++◌}
 use Rattle.po_lex.specs.declared.shape.Piece.{Piece}
 
 -- the texts stand in the bytes, one behind the other

@@ -1,5 +1,5 @@
 -- Bytes in a row: which byte goes on after which, and the longest row at the front of some bytes.
-use Rattle.std.specs.Prelude.{ℕ, Bool, false, true, cond, not, ◌==◌, ◌&&◌, ◌||◌, List, [], ◌∷◌}
+use Rattle.std.specs.Prelude.{ℕ, Bool, false, cond, not, ◌==◌, ◌&&◌, ◌||◌, List, [], ◌∷◌}
 use Rattle.po_lex.specs.Bytes.{is_space, is_digit, is_letter, begins_word, is_exponent, are}
 use Rattle.po_lex.specs.declared.row.Row.{Row}
 use Rattle.po_lex.specs.declared.row.Row.TheVariants as r

@@ -10,18 +10,21 @@ mod laws;
 mod lead;
 mod lexing;
 mod part;
-mod shape;
 mod place;
 mod row;
+mod shape;
 mod sign;
 mod walk;
 
 pub use effect::Effect;
 pub use keeping::{Mood, kept};
-pub use laws::{one_division, one_failure, one_kept_list, one_token_list, pieces_cover, texts_stand_in_order, tokens_or_failure};
+pub use laws::{
+    one_division, one_failure, one_kept_list, one_token_list, pieces_cover, texts_stand_in_order,
+    tokens_or_failure,
+};
 pub use lead::Lead;
 pub use lexing::{LexFail, tokens};
-pub use shape::{Piece, ShapeFail, pieces};
 pub use place::Place;
 pub use row::Row;
+pub use shape::{Piece, ShapeFail, pieces};
 pub use walk::Open;

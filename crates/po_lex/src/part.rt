@@ -28,12 +28,7 @@ impl Lead {
         match self {
             Lead::Joined | Lead::Comment | Lead::Remark => 2,
             Lead::Sign => sign_length(bytes),
-            Lead::Blank
-            | Lead::Word
-            | Lead::Number
-            | Lead::Char
-            | Lead::Str
-            | Lead::Directive => 1,
+            Lead::Blank | Lead::Word | Lead::Number | Lead::Char | Lead::Str | Lead::Directive => 1,
         }
     }
 
@@ -188,11 +183,7 @@ fn said(alloc: Global, lead: Lead, fresh: bool, text: &[u8]) -> Result<Option<Ef
 }
 
 /// The part that begins the bytes; None where no part stands there. Time linear in its bytes.
-pub(crate) fn part_of(
-    alloc: Global,
-    bytes: &[u8],
-    fresh: bool,
-) -> Result<Option<Standing>, Memory>
+pub(crate) fn part_of(alloc: Global, bytes: &[u8], fresh: bool) -> Result<Option<Standing>, Memory>
     ensures found { IfOk result (λ found. IfSome found (λ p. Stands fresh bytes.now (record { lead = p.lead; text = take p.end bytes.now; effect = p.effect }) (drop p.end bytes.now))) }
     ensures ends { IfOk result (λ found. IfSome found (λ p. (0 < p.end) × (p.end ≤ length bytes.now))) }
     ensures none { IfOk result (λ found. IfNone found (NoneStands fresh bytes.now)) }

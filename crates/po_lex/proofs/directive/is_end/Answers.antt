@@ -1,5 +1,3 @@
-use Rattle.std.proofs.Common.{refl, length, inl, inr, ⊎_elim}
-use Rattle.std.proofs.lemmas.Bool.{cases_lt}
 use Rattle.po_lex.proofs.Directives.{end_told}
 use Rattle.po_lex.proofs.directive.is_end.Goals as goal
 

@@ -1,7 +1,5 @@
-use Rattle.std.proofs.Common.{◌≡◌, ◌∙◌, sym, arith, true, false, ap, drop, List, ℕ, ◌+◌, take, ◌-◌}
-use Rattle.std.proofs.lemmas.List.{drop-drop}
-use Rattle.po_lex.specs.Rows.{skip}
-use Rattle.po_lex.specs.Directives.{begins_quote, unquoted, plain}
+use Rattle.std.proofs.Common.{◌≡◌, ◌∙◌, sym, false, drop, List, ℕ, ◌+◌, take, ◌-◌}
+use Rattle.po_lex.specs.Directives.{plain}
 use Rattle.po_lex.proofs.Directives.{unclosed, followed, named_so, unquoted_at, name_at, tail_at}
 use Rattle.po_lex.proofs.directive.named.Goals as goal
 

@@ -1,4 +1,4 @@
-use Rattle.std.proofs.Common.{◌≡◌, ◌-◌, ◌≤◌, ◌++◌, List, length, drop}
+use Rattle.std.proofs.Common.{◌-◌, ◌≤◌, ◌++◌, List, length, drop}
 use Rattle.po_base.specs.declared.token.Token.{Token}
 use Rattle.po_lex.specs.Keeping.{Keeps, at_start}
 use Rattle.po_lex.proofs.keeping.kept.Given as goal

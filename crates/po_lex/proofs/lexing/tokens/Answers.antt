@@ -1,4 +1,4 @@
-use Rattle.std.proofs.Common.{◌≡◌, ℕ, List, [], ◌≤◌, ◌+◌, ◌-◌, ◌<◌, ◌^◌, length, take, drop, arith, sym, ap, ◌∙◌, refl, subst}
+use Rattle.std.proofs.Common.{◌≡◌, ℕ, List, ◌≤◌, ◌+◌, ◌-◌, ◌<◌, ◌^◌, length, take, drop, arith, sym, ap, ◌∙◌, refl, subst}
 use Rattle.std.proofs.lemmas.List.{drop_all, drop-drop, length-drop, length-take, take_all}
 use Rattle.po_lex.specs.Bytes.{newlines}
 use Rattle.po_lex.specs.Division.{Part, Stands, NoneStands, Divides, start, next_line, named_by}

@@ -1,4 +1,4 @@
-use Rattle.std.proofs.Common.{◌≡◌, ◌+◌, ◌-◌, ◌^◌, ◌≤◌, List, length, drop}
+use Rattle.std.proofs.Common.{◌+◌, ◌-◌, ◌^◌, ◌≤◌, List, length, drop}
 use Rattle.po_lex.specs.Division.{Part, Divides, start}
 use Rattle.po_lex.specs.Lexing.{IsRead}
 use Rattle.po_lex.proofs.lexing.tokens.Given as goal

@@ -1,4 +1,4 @@
-use Rattle.std.proofs.Common.{◌≡◌, ℕ, List, ◌∙◌, sym, ap, rules, arith, refl, subst, true, false, Some, None}
+use Rattle.std.proofs.Common.{◌≡◌, List, ◌∙◌, sym, rules, arith, subst, true, false, Some, None}
 use Rattle.po_base.specs.declared.token.Token.{Token}
 use Rattle.po_lex.specs.Brackets.{state_of, ends, step}
 use Rattle.po_lex.specs.Pieces.{IsMisshapen}

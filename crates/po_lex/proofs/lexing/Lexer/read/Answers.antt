@@ -1,4 +1,3 @@
-use Rattle.std.proofs.Common.{◌∙◌, sym}
 use Rattle.po_lex.proofs.Fronts.{read_more, on_ok-map}
 use Rattle.po_lex.proofs.lexing.Lexer.read.Goals as goal
 
