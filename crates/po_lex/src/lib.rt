@@ -14,6 +14,8 @@ mod place;
 mod row;
 mod shape;
 mod sign;
+#[cfg(test)]
+mod tests;
 mod walk;
 
 pub use effect::Effect;
