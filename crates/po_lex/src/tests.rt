@@ -1,10 +1,15 @@
+ghost use Rattle.std.specs.Prelude.{◌≤◌, ◌^◌, length, IfOk};
+
 use crate::{LexFail, Piece, ShapeFail, kept, pieces, tokens};
 use po_base::{List, Text, Token, Tokens};
 use std::alloc::Global;
 use std::process::Abort;
 
 /// The tokens of a file named `main.c`.
-fn read(rt: &impl Abort, alloc: Global, bytes: &[u8]) -> Result<Tokens, LexFail> {
+fn read(rt: &impl Abort, alloc: Global, bytes: &[u8]) -> Result<Tokens, LexFail>
+    ensures { IfOk result (λ tokens. length tokens.list ≤ 2 ^ 22) }
+{
+    assert!(rt; bytes.len() <= 1 << 24);
     let name = Text::new(alloc, b"main.c").expect(rt, "memory");
     tokens(alloc, &name, bytes)
 }
@@ -247,12 +252,4 @@ fn tokens_divide_into_pieces(rt: HostRuntime) {
         let fail = pieces(rt.alloc(), &found).err();
         assert!(rt; fail == Some(ShapeFail::Shape { line }), "{bytes:?}");
     }
-}
-
-#[test]
-fn a_file_has_at_most_4194304_tokens(rt: HostRuntime) {
-    let most = vec![in rt.alloc(); b';'; 1 << 22].expect(&rt, "memory");
-    assert!(rt; read(&rt, rt.alloc(), &most).is_ok());
-    let more = vec![in rt.alloc(); b';'; (1 << 22) + 1].expect(&rt, "memory");
-    assert!(rt; read(&rt, rt.alloc(), &more).err() == Some(LexFail::TooMany));
 }
