@@ -1,0 +1,7 @@
+mod Rows
+mod Directives
+mod Parts
+mod Fronts
+mod Walks
+mod Remains
+mod Unique

@@ -1,0 +1,45 @@
+use Rattle.std.proofs.Common.{◌≡◌, ℕ, ◌+◌, ◌-◌, ◌<◌, ◌≤◌, List, [], ◌∷◌, ◌++◌, length, take, drop, arith, sym, ap, ◌∙◌, subst, append-nil}
+use Rattle.std.proofs.lemmas.List.{drop_more, drop_all, length-drop, length-take, take_all}
+use Rattle.po_base.specs.declared.token.Token.{Token}
+use Rattle.po_lex.specs.Keeping.{Keeps, nothing, advance, size, kept_of, at_start}
+use Rattle.po_lex.specs.declared.keeping.Mood.{Mood}
+use Rattle.po_lex.proofs.Remains.{keeps_on, kept_whole}
+use Rattle.po_lex.proofs.keeping.kept.Goals as goal
+
+pub loop-at-preserved : goal.loop-at-preserved
+loop-at-preserved c =
+    let read : List Token = c.as_slice-read.result.now in
+    let at : ℕ = c.loop-at.at in
+    let n : ℕ = c.in_ok-end.field-0 in
+    let t : Token = c.index-read-at.result in
+    let us : List Token = drop (at + 1) read in
+    let m : Mood = c.loop-at.mood in
+    let left : length us ≡ length read - (at + 1) = length-drop (at + 1) read in
+    let all : take (length read - (at + 1)) us ≡ us = take_all (length read - (at + 1)) us (omega arith) in
+    let seen : length (take (length read - (at + 1)) us) ≡ length us = ap length all in
+    let ends : (0 < n) × (n ≤ length (take (length read - (at + 1)) us) + 1) = c.in_ok-end.ensures.within in
+    let some : 0 < n = ends.0 in
+    let room : at + n ≤ length read = omega (arith, ends.1, seen, left, c.loop-at-test.true) in
+    let sized : n ≡ size m t us = c.in_ok-end.ensures.value ∙ ap (size m t) all in
+    let held : List Token = take (at + n - (at + 1)) us in
+    let whole = kept_whole read at n some room in
+    let put : c.put_kept.new.list ≡ c.loop-at.list ++ kept_of (length held + 1) t (held ++ drop (at + n) read) = c.in_ok-put_kept.ensures (drop (at + n) read) in
+    let grew : c.put_kept.new.list ≡ c.loop-at.list ++ kept_of n t us =
+    put ∙ ap (λ v. c.loop-at.list ++ kept_of v t (held ++ drop (at + n) read)) whole.1 ∙ ap (λ v. c.loop-at.list ++ kept_of n t v) whole.0 in
+    let short : at + n - at ≡ n = omega arith in
+    let moved : c.advance-mood.result ≡ advance m (take n (drop at read)) = c.advance-mood.ensures.value ∙ ap (λ v. advance m (take v (drop at read))) short in
+    let few = c.advance-mood.ensures.few in
+    let taken : length (take (at + n - at) (drop at read)) ≤ n = rw (length-take (at + n - at) (drop at read)) (omega arith) in
+    let parts : drop at read ≡ t ∷ us = drop_more read at t c.loop-at-test.true ∙ ap (λ v. v ∷ us) (sym c.index-read-at.is) in
+    record {
+      within = room;
+      depth = omega (arith, few, taken, c.loop-at.invariant.depth);
+      keeps = keeps_on read c.loop-at.list c.put_kept.new.list m c.advance-mood.result at n t us parts sized moved grew c.loop-at.invariant.keeps;
+    }
+
+pub returns-clause-kept : goal.returns-clause-kept
+returns-clause-kept c =
+    let read : List Token = c.as_slice-read.result.now in
+    let over : drop c.loop-at.at read ≡ [] = drop_all c.loop-at.at read c.loop-at-test.false in
+    let done : Keeps at_start read (c.loop-at.list ++ []) = c.loop-at.invariant.keeps [] (subst (λ v. Keeps c.loop-at.mood v []) (sym over) (nothing c.loop-at.mood)) in
+    subst (λ v. Keeps at_start v c.loop-at.list) c.as_slice-read.ensures (subst (Keeps at_start read) (append-nil c.loop-at.list) done)

@@ -1,0 +1,11 @@
+pub mod Bytes
+pub mod Rows
+pub mod Leads
+pub mod Directives
+pub mod Division
+pub mod Lexing
+pub mod Brackets
+pub mod Pieces
+pub mod Shapes
+pub mod Keeping
+pub mod Laws

@@ -1,0 +1,308 @@
+ghost use Rattle.std.specs.Prelude.{ℕ, ◌≡◌, ◌≤◌, ◌<◌, ◌+◌, ◌-◌, ◌^◌, ◌++◌, ◌==◌, ◌&&◌, length, take, drop, map, IfOk, OnOk, Some, List as Items};
+ghost use Rattle.std.specs.List.{list_any};
+ghost use Rattle.po_base.specs.declared.token.Token.{Token as Placed};
+ghost use Rattle.po_lex.specs.Brackets.{closer, is_closer, mark, outset, state_of};
+ghost use Rattle.po_lex.specs.Keeping.{advance, assembler, at_start, attribute, begins_paren, consts, deeper, doubled, dropped, group, inlines, is_among, is_one_of, kept_of, may_end, parens, renamed, size, stays, telling, Keeps};
+
+use crate::walk::{Walk, closer, is_closer, is_word, mark};
+use po_base::{List, Memory, Text, Token, Tokens};
+use std::alloc::Global;
+
+const DROPPED: [&[u8]; 3] = [b"__extension__", b"__restrict", b"__restrict__"];
+
+const ATTRIBUTE: [&[u8]; 1] = [b"__attribute__"];
+
+const ASSEMBLER: [&[u8]; 1] = [b"__asm__"];
+
+const TELLING: [&[u8]; 10] = [
+    b"packed",
+    b"aligned",
+    b"mode",
+    b"vector_size",
+    b"cleanup",
+    b"__packed__",
+    b"__aligned__",
+    b"__mode__",
+    b"__vector_size__",
+    b"__cleanup__",
+];
+
+const INLINES: [&[u8]; 2] = [b"__inline", b"__inline__"];
+
+const CONSTS: [&[u8]; 1] = [b"__const"];
+
+/// What stands before a place among the tokens of a file as they were read.
+#[derive(Clone, Copy, Debug)]
+pub struct Mood {
+    /// How many brackets are open.
+    pub depth: u32,
+    /// Whether a word, a `)` or a `]` stands directly before.
+    pub after: bool,
+}
+
+/// Whether a text is one of these. Time linear in their number.
+fn is_among(words: &[&[u8]], text: &[u8]) -> bool
+    ensures { result ≡ is_among (map (λ w. w.now) words.now) text.now }
+{
+    for word in words {
+        if *word == text {
+            return true;
+        }
+    }
+    false
+}
+
+/// Whether a token is one of these words. Time linear in their number.
+fn is_one_of(words: &[&[u8]], token: &Token) -> bool
+    ensures { result ≡ is_one_of (map (λ w. w.now) words.now) token.now }
+{
+    is_word(token.kind) && is_among(words, token.text.bytes())
+}
+
+/// How many tokens there are up to the first behind which no bracket is open; 0 where brackets don't match before, or
+/// there is no such token. Time linear in their number.
+fn group(alloc: Global, tokens: &[Token]) -> Result<usize, Memory>
+    ensures value { IfOk result (λ n. n ≡ group 0 (Some outset) tokens.now) }
+    ensures within { IfOk result (λ n. n ≤ length tokens.now) }
+{
+    let mut walk = Walk::new(alloc);
+    for at in 0..tokens.len() {
+        if !walk.step(&tokens[at])? {
+            return Ok(0);
+        }
+        if walk.open.is_empty() {
+            return Ok(at + 1);
+        }
+    }
+    Ok(0)
+}
+
+/// Whether a `(` stands first.
+fn begins_paren(tokens: &[Token]) -> bool
+    ensures { result ≡ begins_paren tokens.now }
+{
+    0 < tokens.len() && mark(&tokens[0]) == b'('
+}
+
+/// How many tokens the parentheses have that stand first; 0 where none stand there. Time linear in their number.
+fn parens(alloc: Global, tokens: &[Token]) -> Result<usize, Memory>
+    ensures value { IfOk result (λ n. n ≡ parens tokens.now) }
+    ensures within { IfOk result (λ n. n ≤ length tokens.now) }
+{
+    if begins_paren(tokens) {
+        group(alloc, tokens)
+    } else {
+        Ok(0)
+    }
+}
+
+/// How many tokens the double parentheses have that stand first; 0 where none stand there. Time linear in their number.
+fn doubled(alloc: Global, tokens: &[Token]) -> Result<usize, Memory>
+    ensures value { IfOk result (λ n. n ≡ doubled tokens.now) }
+    ensures within { IfOk result (λ n. n ≤ length tokens.now) }
+{
+    if tokens.is_empty() {
+        return Ok(0);
+    }
+    let inner = parens(alloc, &tokens[1..])?;
+    let outer = parens(alloc, tokens)?;
+    if inner != 0 && inner + 2 == outer {
+        Ok(outer)
+    } else {
+        Ok(0)
+    }
+}
+
+/// How many brackets are open behind a token.
+fn deeper(depth: u32, token: &Token) -> u32
+    requires { depth < 2 ^ 31 }
+    ensures value { result ≡ deeper depth token.now }
+    ensures few { result ≤ depth + 1 }
+{
+    let byte = mark(token);
+    if is_closer(byte) {
+        return depth.saturating_sub(1);
+    }
+    if closer(byte) == 0 {
+        return depth;
+    }
+    depth + 1
+}
+
+/// Whether a declarator may end with a token.
+fn may_end(token: &Token) -> bool
+    ensures { result ≡ may_end token.now }
+{
+    is_word(token.kind) || mark(token) == b')' || mark(token) == b']'
+}
+
+impl Mood {
+    /// What stands before the place behind these tokens. Time linear in their number.
+    fn advance(self, tokens: &[Token]) -> Mood
+        requires { self.depth + length tokens.now < 2 ^ 31 }
+        ensures value { result ≡ advance self tokens.now }
+        ensures few { result.depth ≤ self.depth + length tokens.now }
+    {
+        let mut mood = self;
+        for token in tokens {
+            mood = Mood {
+                depth: deeper(mood.depth, token),
+                after: may_end(token),
+            };
+        }
+        mood
+    }
+
+    /// How many tokens are judged at once from `first` on, behind which the others come. Time linear in their number.
+    fn size(self, alloc: Global, first: &Token, others: &[Token]) -> Result<usize, Memory>
+        ensures value { IfOk result (λ n. n ≡ size self first.now others.now) }
+        ensures within { IfOk result (λ n. (0 < n) × (n ≤ length others.now + 1)) }
+    {
+        if is_one_of(&ATTRIBUTE, first) {
+            return Ok(doubled(alloc, others)? + 1);
+        }
+        if self.may_drop(first) {
+            return Ok(parens(alloc, others)? + 1);
+        }
+        Ok(1)
+    }
+
+    /// Whether an `__asm__` is dropped here with its parentheses.
+    fn may_drop(self, first: &Token) -> bool
+        ensures { result ≡ is_one_of assembler first.now && self.after && (self.depth == 0) }
+    {
+        is_one_of(&ASSEMBLER, first) && self.after && self.depth == 0
+    }
+}
+
+/// The same token, whose text isn't copied.
+fn same(token: &Token) -> Result<Token, Memory>
+    ensures { IfOk result (λ copy. copy ≡ token.now) }
+{
+    Ok(Token {
+        kind: token.kind,
+        text: token.text.share()?,
+        file: token.file,
+        line: token.line,
+        own_line: token.own_line,
+    })
+}
+
+/// The token with this text.
+fn with_text(alloc: Global, token: &Token, text: &[u8]) -> Result<Token, Memory>
+    ensures { IfOk result (λ other. other ≡ record token.now { text = text.now }) }
+{
+    Ok(Token {
+        kind: token.kind,
+        text: Text::new(alloc, text)?,
+        file: token.file,
+        line: token.line,
+        own_line: token.own_line,
+    })
+}
+
+/// The token with the word as which it is read.
+fn renamed(alloc: Global, token: &Token) -> Result<Token, Memory>
+    ensures { IfOk result (λ other. other ≡ renamed token.now) }
+{
+    if is_one_of(&INLINES, token) {
+        return with_text(alloc, token, b"inline");
+    }
+    if is_one_of(&CONSTS, token) {
+        return with_text(alloc, token, b"const");
+    }
+    same(token)
+}
+
+/// Whether one of the tokens tells what an attribute may not be dropped for. Time linear in their number.
+fn tells(tokens: &[Token]) -> bool
+    ensures { result ≡ list_any (is_one_of telling) tokens.now }
+{
+    for token in tokens {
+        if is_one_of(&TELLING, token) {
+            return true;
+        }
+    }
+    false
+}
+
+/// Puts copies of these tokens at the end, without copies of their texts. Time linear in their number.
+fn put_all(list: &mut List<Token>, tokens: &[Token]) -> Result<(), Memory>
+    ensures { OnOk result (list.new ≡ list.old ++ tokens.now) }
+{
+    for token in tokens {
+        list.push(same(token)?)?;
+    }
+    Ok(())
+}
+
+/// Whether an attribute stays, which holds these tokens.
+fn stays(first: &Token, held: &[Token]) -> bool
+    ensures { result ≡ stays first.now held.now }
+{
+    is_one_of(&ATTRIBUTE, first) && tells(held)
+}
+
+/// Puts what is kept of `first` and of the tokens `held` behind it, which are judged at once, at the end. Time linear in
+/// their number.
+fn put_kept(
+    alloc: Global,
+    list: &mut List<Token>,
+    first: &Token,
+    held: &[Token],
+) -> Result<(), Memory>
+    ensures { OnOk result ((others : Items Placed) → list.new ≡ list.old ++ kept_of (length held.now + 1) first.now (held.now ++ others)) }
+{
+    if is_one_of(&DROPPED, first) {
+        return Ok(());
+    }
+    if held.is_empty() {
+        return list.push(renamed(alloc, first)?);
+    }
+    if !stays(first, held) {
+        return Ok(());
+    }
+    list.push(same(first)?)?;
+    put_all(list, held)
+}
+
+/// The same names, whose bytes aren't copied. Time linear in their number.
+fn same_names(alloc: Global, names: &List<Text>) -> Result<List<Text>, Memory>
+    ensures { IfOk result (λ copy. copy ≡ names.now) }
+{
+    let names = names.as_slice();
+    let mut copy = List::new(alloc);
+    for name in names {
+        copy.push(name.share()?)?;
+    }
+    Ok(copy)
+}
+
+/// The kept tokens of a file, and its names: `__extension__`, `__restrict` and `__restrict__` are dropped, and so are
+/// `__attribute__` with its double parentheses, unless they hold a word that changes a layout or a type, and outside
+/// brackets `__asm__` with its parentheses behind a word, a `)` or a `]`. `__inline` and `__inline__` are read as
+/// `inline`, `__const` as `const`. Texts are handed on and not copied. Time is linear in the tokens where brackets match;
+/// where they don't, each `__attribute__` and `__asm__` looks ahead as far as its brackets do match. Memory is linear in
+/// the tokens.
+pub fn kept(alloc: Global, tokens: &Tokens) -> Result<Tokens, Memory>
+    requires { length tokens.now.list < 2 ^ 31 }
+    ensures kept { IfOk result (λ kept. Keeps at_start tokens.now.list kept.list) }
+    ensures names { IfOk result (λ kept. kept.names ≡ tokens.now.names) }
+{
+    let read = tokens.list.as_slice();
+    let mut list = List::new(alloc);
+    let mut mood = Mood {
+        depth: 0,
+        after: false,
+    };
+    let mut at = 0;
+    while at < read.len() {
+        let first = &read[at];
+        let end = at + mood.size(alloc, first, &read[at + 1..])?;
+        put_kept(alloc, &mut list, first, &read[at + 1..end])?;
+        mood = mood.advance(&read[at..end]);
+        at = end;
+    }
+    let names = same_names(alloc, &tokens.names)?;
+    Ok(Tokens { list, names })
+}

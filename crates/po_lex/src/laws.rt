@@ -1,0 +1,46 @@
+ghost use Rattle.std.specs.Prelude.{ℕ, ◌≡◌, Bool, [], map, length, List as Items};
+ghost use Rattle.po_base.specs.declared.token.Token.{Token as Placed};
+ghost use Rattle.po_base.specs.declared.token.Tokens.{Tokens as Lists};
+ghost use Rattle.po_lex.specs.Division.{Part, Divides, AreTokens, Fails, HasTooMany, start};
+ghost use Rattle.po_lex.specs.Keeping.{Keeps};
+ghost use Rattle.po_lex.specs.Pieces.{ArePieces};
+ghost use Rattle.po_lex.specs.Laws.{StandInOrder, Cover};
+ghost use Rattle.po_lex.specs.declared.keeping.Mood.{Mood as Before};
+ghost use Rattle.po_lex.specs.declared.shape.Piece.{Piece as Range};
+
+/// The bytes of a file have one division at most.
+pub fn one_division()
+    ensures { (bytes : Items ℕ) (xs ys : Items Part) → Divides start xs bytes [] → Divides start ys bytes [] → xs ≡ ys }
+{}
+
+/// A file of one name has one list of tokens at most, and one list of names.
+pub fn one_token_list()
+    ensures { (name bytes : Items ℕ) (xs ys : Lists) → AreTokens name bytes xs → AreTokens name bytes ys → xs ≡ ys }
+{}
+
+/// A file that has tokens doesn't fail, and neither does one that has too many.
+pub fn tokens_or_failure()
+    ensures tokens { (name bytes : Items ℕ) (xs : Lists) (line : ℕ) (directive : Bool) → AreTokens name bytes xs → Fails bytes line directive → ⊥ }
+    ensures many { (bytes : Items ℕ) (line : ℕ) (directive : Bool) → HasTooMany bytes → Fails bytes line directive → ⊥ }
+    ensures few { (name bytes : Items ℕ) (xs : Lists) → AreTokens name bytes xs → HasTooMany bytes → ⊥ }
+{}
+
+/// A file fails on one line, in one way.
+pub fn one_failure()
+    ensures { (bytes : Items ℕ) (l m : ℕ) (b d : Bool) → Fails bytes l b → Fails bytes m d → (l ≡ m) × (b ≡ d) }
+{}
+
+/// The texts of a file's tokens stand in its bytes, one behind the other.
+pub fn texts_stand_in_order()
+    ensures { (name bytes : Items ℕ) (tokens : Lists) → AreTokens name bytes tokens → StandInOrder (map (λ t. t.text) tokens.list) bytes }
+{}
+
+/// Of the tokens of a file just one list is kept.
+pub fn one_kept_list()
+    ensures { (before : Before) (tokens xs ys : Items Placed) → Keeps before tokens xs → Keeps before tokens ys → xs ≡ ys }
+{}
+
+/// The pieces of tokens cover them without a gap, and none is empty.
+pub fn pieces_cover()
+    ensures { (tokens : Items Placed) (pieces : Items Range) → ArePieces tokens pieces → Cover 0 pieces (length tokens) }
+{}

@@ -1,0 +1,203 @@
+ghost use Rattle.std.specs.Prelude.{ℕ, ◌≡◌, ◌+◌, ◌-◌, ◌<◌, ◌≤◌, ◌^◌, ◌++◌, ◌∷◌, [], ◌≢◌, length, take, drop, IfOk, IfErr, OnOk, List as Items};
+ghost use Rattle.po_base.specs.declared.token.Token.{Token as Placed};
+ghost use Rattle.po_lex.specs.Leads.{kind_of};
+ghost use Rattle.po_lex.specs.Division.{Part, AreTokens, Divides, Fails, HasTooMany, as_token, is_directive, moved, named_by, next_line, start, tokens_of};
+ghost use Rattle.po_lex.specs.Lexing.{IsKept, IsRead, HasCause, failure};
+ghost use Rattle.po_lex.specs.declared.lexing.LexFail.TheVariants.{Memory as NoMemory};
+
+use crate::effect::Effect;
+use crate::lead::Lead;
+use crate::part::{Standing, part_of};
+use crate::place::Place;
+use po_base::{List, Memory, Text, Token, TokenKind, Tokens};
+use std::alloc::Global;
+use thiserror::Error;
+
+/// The most tokens that a file may have.
+const MOST_TOKENS: usize = 1 << 22;
+
+/// Why a file has no tokens.
+#[derive(Clone, Copy, Debug, PartialEq, Eq, Error)]
+pub enum LexFail {
+    /// On this line of the file nothing stands that a token, a blank or a comment could be.
+    #[error("no token stands on line {line}")]
+    Lex { line: u32 },
+    /// On this line of the file a directive stands that isn't allowed.
+    #[error("the directive on line {line} is not allowed")]
+    Directive { line: u32 },
+    /// The file has more than 2^22 tokens.
+    #[error("too many tokens")]
+    TooMany,
+    /// Memory was wanting.
+    #[error("out of memory")]
+    Memory,
+}
+
+impl From<Memory> for LexFail {
+    ghost from_gives = { λ _ e. e ≡ NoMemory };
+
+    fn from(_error: Memory) -> LexFail {
+        LexFail::Memory
+    }
+}
+
+/// Puts a token at the end, and says whether there are more than 2^22 now; `excess` says whether there were. Those past
+/// 2^22 are counted and not put.
+fn put(list: &mut List<Token>, excess: bool, token: Token) -> Result<bool, Memory>
+    ensures { IfOk result (λ now. (tokens : Items Placed) → IsKept excess list.old tokens → IsKept now list.new (tokens ++ token ∷ [])) }
+{
+    if excess {
+        return Ok(true);
+    }
+    if list.len() == MOST_TOKENS {
+        return Ok(true);
+    }
+    list.push(token)?;
+    Ok(false)
+}
+
+/// Puts the token of a part, where it is one, at the end as `put` does.
+fn put_part(
+    alloc: Global,
+    list: &mut List<Token>,
+    excess: bool,
+    kind: Option<TokenKind>,
+    place: &Place,
+    text: &[u8],
+) -> Result<bool, Memory>
+    ensures { IfOk result (λ now. (tokens : Items Placed) → IsKept excess list.old tokens → IsKept now list.new (tokens ++ as_token kind place.now text.now)) }
+{
+    match kind {
+        Some(kind) => {
+            let token = Token {
+                kind,
+                text: Text::new(alloc, text)?,
+                file: place.named,
+                line: place.next.saturating_sub(1),
+                own_line: place.own,
+            };
+            put(list, excess, token)
+        }
+        None => Ok(excess),
+    }
+}
+
+/// Puts the name that a part gives to the file, where it gives one, at the end.
+fn put_name(names: &mut List<Text>, effect: Effect) -> Result<(), Memory>
+    ensures { OnOk result (names.new ≡ names.old ++ named_by effect) }
+{
+    match effect {
+        Effect::Silent => Ok(()),
+        Effect::Line(_) => Ok(()),
+        Effect::Named(_, name) => names.push(name),
+    }
+}
+
+/// What was read of a file up to a place.
+#[derive(Debug, Drop)]
+struct Lexer {
+    list: List<Token>,
+    /// Whether the file has more tokens than the list may have.
+    excess: bool,
+    names: List<Text>,
+    place: Place,
+}
+
+impl Lexer {
+    /// Nothing of a file of this name.
+    fn new(alloc: Global, name: &Text) -> Result<Lexer, Memory>
+        ensures { IfOk result (λ lexer. IsRead name.now [] lexer) }
+    {
+        let mut names = List::new(alloc);
+        names.push(name.share()?)?;
+        Ok(Lexer {
+            list: List::new(alloc),
+            excess: false,
+            names,
+            place: Place {
+                fresh: true,
+                next: 2,
+                own: 1,
+                named: 0,
+            },
+        })
+    }
+
+    /// Reads a part with these bytes. Time and memory linear in them.
+    fn read(&mut self, alloc: Global, text: &[u8], part: Standing) -> Result<(), Memory>
+        requires short { length text.now ≤ 2 ^ 24 }
+        requires own { self.old.place.own ≤ 2 ^ 25 }
+        requires named { self.old.place.named ≤ 2 ^ 25 }
+        requires next { next_line part.effect self.old.place.next ≤ 2 ^ 31 + 2 ^ 25 }
+        ensures read { OnOk result ((name : Items ℕ) (front : Items Part) → IsRead name front self.old → IsRead name (front ++ record { lead = part.lead; text = text.now; effect = part.effect } ∷ []) self.new) }
+        ensures place { OnOk result (self.new.place ≡ moved self.old.place text.now part.effect) }
+    {
+        self.excess = put_part(
+            alloc,
+            &mut self.list,
+            self.excess,
+            part.lead.kind(),
+            &self.place,
+            text,
+        )?;
+        self.place = self.place.moved(text, &part.effect);
+        put_name(&mut self.names, part.effect)
+    }
+
+    /// The tokens that were read, or that they are too many.
+    fn finish(self) -> Result<Tokens, LexFail>
+        ensures tokens { IfOk result (λ tokens. (name : Items ℕ) (front : Items Part) → IsRead name front self → (tokens.list ≡ tokens_of start front) × (length tokens.list ≤ 2 ^ 22) × (tokens.names ≡ self.names)) }
+        ensures fail { IfErr result (λ fail. (fail ≡ LexFail.TooMany) × ((name : Items ℕ) (front : Items Part) → IsRead name front self → 2 ^ 22 < length (tokens_of start front))) }
+    {
+        if self.excess {
+            return Err(LexFail::TooMany);
+        }
+        Ok(Tokens {
+            list: self.list,
+            names: self.names,
+        })
+    }
+}
+
+/// Why no part stands at a place.
+fn no_part(place: &Place, bytes: &[u8]) -> LexFail
+    requires { 0 < length bytes.now }
+    ensures { result ≡ failure (is_directive place.now.fresh bytes.now) place.now.own }
+{
+    if place.fresh && bytes[0] == b'#' {
+        LexFail::Directive { line: place.own }
+    } else {
+        LexFail::Lex { line: place.own }
+    }
+}
+
+/// The tokens of a file of at most 2^24 bytes that a C preprocessor wrote, in the one division of its bytes into
+/// longest parts. The first name is the file's own, and each line marker that gives a name adds one. Time is linear in
+/// the bytes. Memory is at most 80 bytes for a byte of the file, and about 10 for real text; each name is kept once for a
+/// marker that gives it, and a token has its place alone.
+///
+/// # Errors
+///
+/// [`LexFail::Lex`] and [`LexFail::Directive`] exactly where the bytes have no division, with the line of the file on
+/// which the first place stands at which no part does. [`LexFail::TooMany`] exactly where the division has more than 2^22
+/// tokens.
+pub fn tokens(alloc: Global, name: &Text, bytes: &[u8]) -> Result<Tokens, LexFail>
+    requires { length bytes.now ≤ 2 ^ 24 }
+    ensures tokens { IfOk result (λ tokens. AreTokens name.now bytes.now tokens) }
+    ensures fail { IfErr result (λ fail. HasCause bytes.now fail) }
+{
+    let mut lexer = Lexer::new(alloc, name)?;
+    let mut at = 0;
+    while at < bytes.len() {
+        let left = &bytes[at..];
+        match part_of(alloc, left, lexer.place.fresh)? {
+            Some(part) => {
+                let end = part.end;
+                lexer.read(alloc, &left[..end], part)?;
+                at += end;
+            }
+            None => return Err(no_part(&lexer.place, left)),
+        }
+    }
+    lexer.finish()
+}

@@ -1,0 +1,32 @@
+//! Tokens and pieces of the text that a C preprocessor writes: the one division of a file's bytes into blanks,
+//! comments, directives and tokens; the tokens that are kept; and the division of these into declarations.
+#![tactic(auto)]
+
+mod bytes;
+mod directive;
+mod effect;
+mod keeping;
+mod laws;
+mod lead;
+mod lexing;
+mod part;
+mod place;
+mod row;
+mod shape;
+mod sign;
+#[cfg(test)]
+mod tests;
+mod walk;
+
+pub use effect::Effect;
+pub use keeping::{Mood, kept};
+pub use laws::{
+    one_division, one_failure, one_kept_list, one_token_list, pieces_cover, texts_stand_in_order,
+    tokens_or_failure,
+};
+pub use lead::Lead;
+pub use lexing::{LexFail, tokens};
+pub use place::Place;
+pub use row::Row;
+pub use shape::{Piece, ShapeFail, pieces};
+pub use walk::Open;
