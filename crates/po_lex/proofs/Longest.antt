@@ -1,5 +1,5 @@
 -- No text that is a part by itself is longer than the part that stands.
-use Rattle.std.proofs.Common.{◌≡◌, ℕ, ◌+◌, ◌-◌, ◌<◌, ◌≤◌, Bool, true, false, cond, List, [], ◌∷◌, ◌++◌, length, take, drop, arith, sym, ap, refl, ◌∙◌, subst, append_assoc, append-nil, length-append, inl, inr}
+use Rattle.std.proofs.Common.{◌≡◌, ℕ, ◌+◌, ◌-◌, ◌<◌, ◌≤◌, Bool, true, false, cond, List, [], ◌∷◌, ◌++◌, length, take, drop, arith, sym, ap, refl, ◌∙◌, subst, append-nil, length-append, inl, inr}
 use Rattle.std.specs.Prelude.{nat_eq, max, min, ◌⊎◌}
 use Rattle.std.proofs.lemmas.Bool.{cases_lt}
 use Rattle.std.specs.List.{starts_with}
