@@ -5,3 +5,4 @@ mod Fronts
 mod Walks
 mod Remains
 mod Unique
+mod Longest

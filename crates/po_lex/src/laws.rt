@@ -1,12 +1,18 @@
-ghost use Rattle.std.specs.Prelude.{ℕ, ◌≡◌, Bool, [], map, length, List as Items};
+ghost use Rattle.std.specs.Prelude.{ℕ, ◌≡◌, ◌≤◌, ◌++◌, Bool, true, [], map, length, List as Items};
 ghost use Rattle.po_base.specs.declared.token.Token.{Token as Placed};
 ghost use Rattle.po_base.specs.declared.token.Tokens.{Tokens as Lists};
-ghost use Rattle.po_lex.specs.Division.{Part, Divides, AreTokens, Fails, HasTooMany, start};
+ghost use Rattle.po_lex.specs.Division.{Part, Divides, AreTokens, Fails, HasTooMany, Stands, start};
 ghost use Rattle.po_lex.specs.Keeping.{Keeps};
 ghost use Rattle.po_lex.specs.Pieces.{ArePieces};
 ghost use Rattle.po_lex.specs.Laws.{StandInOrder, Cover};
 ghost use Rattle.po_lex.specs.declared.keeping.Mood.{Mood as Before};
 ghost use Rattle.po_lex.specs.declared.shape.Piece.{Piece as Range};
+
+/// The part that stands at a place is the longest: no text that is a part by itself, and with which the bytes there
+/// begin, has more bytes.
+pub fn longest_part_stands()
+    ensures { (fresh : Bool) (bytes : Items ℕ) (x y : Part) (rest left : Items ℕ) → Stands fresh bytes x rest → Stands true y.text y [] → bytes ≡ y.text ++ left → length y.text ≤ length x.text }
+{}
 
 /// The bytes of a file have one division at most.
 pub fn one_division()
