@@ -3,7 +3,7 @@ use Rattle.std.proofs.Common.{◌≡◌, ◌⊎◌, suc, ◌≤◌, List, [], �
 use Rattle.std.specs.List.{flat_map}
 use Rattle.std.specs.Prelude.{Bool}
 use Rattle.po_core.specs.Book.{Book, IsBook}
-use Rattle.po_core.specs.Core.{CoreState, HasMark, IsSettled, Steps, Runs, Replays}
+use Rattle.po_core.specs.Core.{AreApart, CoreState, HasMark, IsSettled, Steps, Runs, Replays}
 use Rattle.po_core.specs.Theorem.{settle_count, most_obligations, possible_of, functions_below}
 use Rattle.po_core.specs.declared.event.Event.{Event}
 use Rattle.po_core.specs.declared.event.Event.TheVariants.{Take, Post, Settle, Give, PutBack, Ask}
@@ -13,34 +13,8 @@ use Rattle.po_core.specs.declared.obl.Verdict.{Verdict}
 use Rattle.po_core.proofs.Members.{settled_taken}
 use Rattle.po_core.proofs.Once.{stays_settled, runs_settled}
 use Rattle.po_core.proofs.Orderly.{Agrees, agrees_step, agrees_at_start}
-use Rattle.po_core.proofs.Possible.{Has, has, all_possible}
-
--- no item stands twice
-abbrev pub AreApart : {X : Type 0} → List X → Type 0
-AreApart [] = Unit {0}
-AreApart (x ∷ xs) = (¬ Has xs x) × AreApart xs
-
--- a list without one of its items
-record Without {X : Type 0} (ys : List X) (x : X) : Type 0 where
-  pub rest : List X
-  pub shorter : length ys ≡ suc (length rest)
-  pub others : (y : X) → Has ys y → (y ≡ x) ⊎ Has rest y
-
-without : {X : Type 0} (ys : List X) (x : X) → Has ys x → Without ys x
-without [] x h = absurd h
-without (z ∷ zs) x (inl q) = record { rest = zs; shorter = refl; others = λ y h. elim h [ inl e ↦ inl (sym e ∙ q) | inr e ↦ inr e ] }
-without (z ∷ zs) x (inr h) =
-    let w = without zs x h in
-    record { rest = z ∷ w.rest; shorter = ap suc w.shorter; others = λ y k. elim k [ inl e ↦ inr (inl e) | inr e ↦ elim (w.others y e) [ inl d ↦ inl d | inr d ↦ inr (inr d) ] ] }
-
--- items that stand apart, all of them among others, are no more than those
-pub apart_within : {X : Type 0} (xs ys : List X) → AreApart xs → ((x : X) → Has xs x → Has ys x) → length xs ≤ length ys
-apart_within [] ys a h = omega arith
-apart_within {X = X} (x ∷ xs) ys a h =
-    let w = without ys x (h x (inl refl)) in
-    let rec : length xs ≤ length w.rest = apart_within xs w.rest a.1 (λ y k. elim (w.others y (h y (inr k))) [ inl e ↦ absurd (a.0 (subst (λ (z : X). Has xs z) e k)) | inr e ↦ e ]) in
-    let short : length ys ≡ suc (length w.rest) = w.shorter in
-    omega arith
+use Rattle.po_core.proofs.Lists.{Has, has, apart_within}
+use Rattle.po_core.proofs.Possible.{all_possible}
 
 module _ {P N T : Type 0} (b : Book P N T) (eq : P → P → Bool) (law : IsBook eq b) where
   -- the obligations that a list of events settles
@@ -72,7 +46,7 @@ module _ {P N T : Type 0} (b : Book P N T) (eq : P → P → Bool) (law : IsBook
       record {
         all = p ∷ rest.all;
         count = omega arith;
-        apart = (λ h. rest.not_before p v h now, rest.apart);
+        apart = (λ h. rest.not_before p v (has rest.all p h) now, rest.apart);
         not_before = λ o w h k. elim h [
           | inl q ↦ settled_taken w (a.one_mark o (Settled w) Taken k (subst (λ (z : Obl P). HasMark s z Taken) q r.1.legal.0.1))
           | inr x ↦ rest.not_before o w x (stays_settled b eq law s r.0 (Settle F p v) r.1 o w k)

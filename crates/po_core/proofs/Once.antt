@@ -12,7 +12,7 @@ use Rattle.po_core.specs.declared.obl.Obl.{Obl}
 use Rattle.po_core.specs.declared.obl.Verdict.{Verdict}
 use Rattle.po_core.proofs.Members.{obligations_decided, decided_by, settled_taken, settled_untaken, settled_before, same_verdict}
 use Rattle.po_core.proofs.Orderly.{Agrees, agrees_step, agrees_runs}
-use Rattle.po_core.proofs.Possible.{has, contains}
+use Rattle.po_core.proofs.Lists.{has, contains}
 
 -- the event settles the obligation
 abbrev pub SettlesNow : {P N : Type 0} → Event P N → Obl P → Type 0

@@ -4,7 +4,7 @@ use Rattle.std.specs.List.{Contains}
 use Rattle.std.specs.Prelude.{Bool, Some}
 use Rattle.po_base.specs.declared.numbers.FileNo.{FileNo}
 use Rattle.po_core.specs.Book.{Book, IsBook, file_of_obl}
-use Rattle.po_core.specs.Core.{CoreState, HasMark, IsKnown, IsUntaken, HasHand, IsHeld, IsInHand, KeepsHands, KeepsOtherHands, Steps, Runs, Replays, IsStart}
+use Rattle.po_core.specs.Core.{AreApart, CoreState, HasMark, IsKnown, IsUntaken, HasHand, IsHeld, IsInHand, KeepsHands, KeepsOtherHands, Steps, Runs, Replays, IsStart}
 use Rattle.po_core.specs.declared.event.Event.{Event}
 use Rattle.po_core.specs.declared.event.Event.TheVariants.{Take, Post, Settle, Give, PutBack, Ask}
 use Rattle.po_core.specs.declared.event.Hand.{Hand}
@@ -30,7 +30,7 @@ module _ {P N : Type 0} (s t : CoreState P N) where
   not_freed : (F G : FileNo) (o : Obl P) → ¬ IsHeld t F → IsInHand t G o → G ≢ F
   not_freed F G o free h q = free (subst (λ (x : FileNo). IsHeld t x) q (h.0, h.1))
 
-same_hand : {P : Type 0} (x y : Hand P) → Some (Some x) ≡ Some (Some y) → x ≡ y
+pub same_hand : {P : Type 0} (x y : Hand P) → Some (Some x) ≡ Some (Some y) → x ≡ y
 same_hand x y q = cc
 
 module _ {P N T : Type 0} (b : Book P N T) (eq : P → P → Bool) (law : IsBook eq b) where
@@ -41,6 +41,7 @@ module _ {P N T : Type 0} (b : Book P N T) (eq : P → P → Bool) (law : IsBook
     pub one_mark : (o : Obl P) (m n : Mark P N) → HasMark s o m → HasMark s o n → m ≡ n
     pub hands_known : (file : FileNo) (o : Obl P) → IsInHand s file o → IsKnown s o
     pub hands_of_file : (file : FileNo) (o : Obl P) → IsInHand s file o → file_of_obl b o ≡ file
+    pub hands_once : (file : FileNo) (hand : Hand P) → HasHand s file hand → AreApart hand.items
     pub hands_taken : (file : FileNo) (o : Obl P) → IsInHand s file o → ¬ IsUntaken s o
     pub taken_in_hand : (o : Obl P) → HasMark s o Taken → IsInHand s (file_of_obl b o) o
 
@@ -67,6 +68,7 @@ module _ {P N T : Type 0} (b : Book P N T) (eq : P → P → Bool) (law : IsBook
     one_mark = λ o m n h k. ((st.primaries o m).0 h).0 ∙ sym ((st.primaries o n).0 k).0;
     hands_known = λ F o h. absurd (st.none_held F (h.0, h.1));
     hands_of_file = λ F o h. absurd (st.none_held F (h.0, h.1));
+    hands_once = λ F hand h. absurd (st.none_held F (hand, h));
     hands_taken = λ F o h. absurd (st.none_held F (h.0, h.1));
     taken_in_hand = λ o h. absurd (taken_untaken ((st.primaries o Taken).0 h).0);
   }
@@ -84,6 +86,10 @@ module _ {P N T : Type 0} (b : Book P N T) (eq : P → P → Bool) (law : IsBook
       one_mark = one_mark_after s t _ _ _ st.effect.marks i.one_mark;
       hands_known = λ G o h. elim (after_take G o h) [ inl x ↦ (Taken, (st.effect.marks o Taken).1 (inl (refl, x.1.0, x.1.1))) | inr x ↦ still_known s t (Take w F) st i o (i.hands_known G o x.1) ];
       hands_of_file = λ G o h. elim (after_take G o h) [ inl x ↦ x.1.1 ∙ sym x.0 | inr x ↦ i.hands_of_file G o x.1 ];
+      hands_once = λ G hand h. elim (files_decided G F) [
+        inl q ↦ (let at : HasHand t F hand = subst (λ (x : FileNo). HasHand t x hand) q h in let is : hand ≡ st.effect.hand = same_hand hand st.effect.hand (sym at ∙ st.effect.has_hand) in subst (λ (x : Hand P). AreApart x.items) (sym is) st.effect.takes_once)
+        | inr q ↦ i.hands_once G hand ((st.effect.other_hands G hand q).0 h)
+      ];
       hands_taken = λ G o h u. elim ((st.effect.marks o Untaken).0 u) [
         | inl y ↦ taken_untaken (sym y.0)
         | inr y ↦ elim (after_take G o h) [ inl x ↦ y.1 (refl, x.1.1) | inr x ↦ i.hands_taken G o x.1 y.0 ]
@@ -109,6 +115,7 @@ module _ {P N T : Type 0} (b : Book P N T) (eq : P → P → Bool) (law : IsBook
     ];
     hands_known = λ G o h. still_known s t (Post F p q) st i o (i.hands_known G o (in_hand s t G o st.effect.hands h));
     hands_of_file = λ G o h. i.hands_of_file G o (in_hand s t G o st.effect.hands h);
+    hands_once = λ G hand h. i.hands_once G hand ((st.effect.hands G hand).0 h);
     hands_taken = λ G o h u. let before : IsInHand s G o = in_hand s t G o st.effect.hands h in elim ((st.effect.marks o Untaken).0 u) [ inl x ↦ i.hands_taken G o before x | inr x ↦ x.2 (i.hands_known G o before) ];
     taken_in_hand = λ o h. elim ((st.effect.marks o Taken).0 h) [ inl x ↦ in_hand_still s t _ o st.effect.hands (i.taken_in_hand o x) | inr x ↦ absurd (taken_untaken x.0) ];
   }
@@ -116,6 +123,7 @@ module _ {P N T : Type 0} (b : Book P N T) (eq : P → P → Bool) (law : IsBook
     one_mark = one_mark_after s t _ _ _ st.effect.marks i.one_mark;
     hands_known = λ G o h. still_known s t (Settle F p v) st i o (i.hands_known G o (in_hand s t G o st.effect.hands h));
     hands_of_file = λ G o h. i.hands_of_file G o (in_hand s t G o st.effect.hands h);
+    hands_once = λ G hand h. i.hands_once G hand ((st.effect.hands G hand).0 h);
     hands_taken = λ G o h u. elim ((st.effect.marks o Untaken).0 u) [ inl x ↦ settled_untaken v (sym x.0) | inr x ↦ i.hands_taken G o (in_hand s t G o st.effect.hands h) x.0 ];
     taken_in_hand = λ o h. elim ((st.effect.marks o Taken).0 h) [ inl x ↦ absurd (settled_taken v (sym x.0)) | inr x ↦ in_hand_still s t _ o st.effect.hands (i.taken_in_hand o x.0) ];
   }
@@ -123,6 +131,7 @@ module _ {P N T : Type 0} (b : Book P N T) (eq : P → P → Bool) (law : IsBook
     one_mark = λ o m n h k. i.one_mark o m n ((st.effect.1 o m).0 h) ((st.effect.1 o n).0 k);
     hands_known = λ G o h. still_known s t (Give w F) st i o (i.hands_known G o (freed_hand s t F st.effect.0.free st.effect.0.other_hands i G o h).1);
     hands_of_file = λ G o h. i.hands_of_file G o (freed_hand s t F st.effect.0.free st.effect.0.other_hands i G o h).1;
+    hands_once = λ G hand h. i.hands_once G hand ((st.effect.0.other_hands G hand (λ q. st.effect.0.free (subst (λ (x : FileNo). IsHeld t x) q (hand, h)))).0 h);
     hands_taken = λ G o h u. i.hands_taken G o (freed_hand s t F st.effect.0.free st.effect.0.other_hands i G o h).1 ((st.effect.1 o Untaken).0 u);
     taken_in_hand = λ o h.
         let was : HasMark s o Taken = (st.effect.1 o Taken).0 h in
@@ -135,6 +144,7 @@ module _ {P N T : Type 0} (b : Book P N T) (eq : P → P → Bool) (law : IsBook
     one_mark = one_mark_after s t _ _ _ st.effect.1 i.one_mark;
     hands_known = λ G o h. still_known s t (PutBack F) st i o (i.hands_known G o (freed_hand s t F st.effect.0.free st.effect.0.other_hands i G o h).1);
     hands_of_file = λ G o h. i.hands_of_file G o (freed_hand s t F st.effect.0.free st.effect.0.other_hands i G o h).1;
+    hands_once = λ G hand h. i.hands_once G hand ((st.effect.0.other_hands G hand (λ q. st.effect.0.free (subst (λ (x : FileNo). IsHeld t x) q (hand, h)))).0 h);
     hands_taken = λ G o h u.
         let before = freed_hand s t F st.effect.0.free st.effect.0.other_hands i G o h in
         elim ((st.effect.1 o Untaken).0 u) [ inl x ↦ before.0 (sym (i.hands_of_file G o before.1) ∙ i.hands_of_file F o x.2) | inr x ↦ i.hands_taken G o before.1 x.0 ];
@@ -148,6 +158,7 @@ module _ {P N T : Type 0} (b : Book P N T) (eq : P → P → Bool) (law : IsBook
     one_mark = λ o m n h k. i.one_mark o m n ((st.effect.marks o m).0 h) ((st.effect.marks o n).0 k);
     hands_known = λ G o h. still_known s t (Ask w d) st i o (i.hands_known G o (in_hand s t G o st.effect.hands h));
     hands_of_file = λ G o h. i.hands_of_file G o (in_hand s t G o st.effect.hands h);
+    hands_once = λ G hand h. i.hands_once G hand ((st.effect.hands G hand).0 h);
     hands_taken = λ G o h u. i.hands_taken G o (in_hand s t G o st.effect.hands h) ((st.effect.marks o Untaken).0 u);
     taken_in_hand = λ o h. in_hand_still s t _ o st.effect.hands (i.taken_in_hand o ((st.effect.marks o Taken).0 h));
   }

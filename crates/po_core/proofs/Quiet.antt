@@ -16,7 +16,7 @@ use Rattle.po_core.proofs.Judged.{IsJudged, judged}
 use Rattle.po_core.proofs.Members.{IsDecided, both_decided, functions_decided, obligations_decided, decided_by, settled_untaken}
 use Rattle.po_core.proofs.Once.{settled_once}
 use Rattle.po_core.proofs.Orderly.{Agrees, agrees, agrees_at_start}
-use Rattle.po_core.proofs.Possible.{Has, has, contains, contains_map}
+use Rattle.po_core.proofs.Lists.{has_from_map, Has, has, contains, contains_map}
 
 -- whether a list has an item, as a test
 module _ {X : Type 0} (decided : (x y : X) → IsDecided (x ≡ y)) where
@@ -38,11 +38,6 @@ module _ {X : Type 0} (decided : (x y : X) → IsDecided (x ≡ y)) where
   passes_item (y ∷ ys) x h =
       let cases : (d : IsDecided (y ≡ x)) → IsTrue (elim d [ inl q ↦ true | inr q ↦ is_item ys x ]) → (y ≡ x) ⊎ Has ys x = λ d k. elim d as (λ e. IsTrue (elim e [ inl q ↦ true | inr q ↦ is_item ys x ]) → (y ≡ x) ⊎ Has ys x) [ inl q ↦ (λ k. inl q) | inr q ↦ (λ k. inr (passes_item ys x k)) ] k in
       cases (decided y x) h
-
-has_from_map : {X Y : Type 0} (f : X → Y) (xs : List X) (y : Y) → Has (map f xs) y → (x : X) × Has xs x × (f x ≡ y)
-has_from_map f [] y h = absurd h
-has_from_map f (x ∷ xs) y (inl q) = (x, inl refl, q)
-has_from_map f (x ∷ xs) y (inr h) = let r = has_from_map f xs y h in (r.0, inr r.1, r.2)
 
 module _ {P N T : Type 0} (b : Book P N T) (eq : P → P → Bool) (law : IsBook eq b) (es : List (Event P N)) (s : CoreState P N) (r : Replays b es s) (quiet : IsQuiet s) where
   obligations : (o p : Obl P) → IsDecided (o ≡ p)

@@ -1,5 +1,5 @@
 -- What a rulebook means.
-use Rattle.std.specs.Prelude.{ℕ, ◌≡◌, ◌<◌, ◌↔◌, List, Bool, IsTrue}
+use Rattle.std.specs.Prelude.{ℕ, ◌≡◌, ◌<◌, ◌↔◌, List, Option, Bool, IsTrue}
 use Rattle.std.specs.List.{Contains}
 use Rattle.po_base.specs.declared.numbers.FileNo.{FileNo}
 use Rattle.po_base.specs.declared.numbers.FunNo.{FunNo}
@@ -10,15 +10,15 @@ use Rattle.po_core.specs.declared.obl.Verdict.{Verdict}
 use Rattle.po_core.specs.declared.obl.Verdict.TheVariants.{Delegated}
 
 -- The program's parts by number, what each function asks by itself (a node and a place), where it is called (a
--- function and a node), what its verdicts are read from, each obligation's verdict, and a list with every
--- predicate that a verdict may delegate.
+-- function and a node), the table that its verdicts are read from (none where there is no such function), each
+-- obligation's verdict, and a list with every predicate that a verdict may delegate.
 pub record Book (P N T : Type 0) : Type 0 where
   pub files : ℕ
   pub functions : ℕ
   pub file_of : FunNo → FileNo
   pub primaries : FunNo → List (NodeNo × ℕ)
   pub call_sites : FunNo → List (FunNo × NodeNo)
-  pub table_of : FunNo → T
+  pub table_of : FunNo → Option T
   pub verdict_of : Obl P → Verdict P N
   pub assumable : List P
 

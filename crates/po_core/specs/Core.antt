@@ -2,7 +2,7 @@
 -- maps: the order of a list in a state counts only in a hand, whose items have places.
 use Rattle.std.specs.Prelude.{ℕ, ◌≡◌, ◌≢◌, ◌↔◌, ◌⊎◌, List, [], ◌∷◌, Option, Some, slice_get}
 use Rattle.std.specs.Bool.{MatchBool}
-use Rattle.std.specs.List.{Contains, AllPairs}
+use Rattle.std.specs.List.{Contains}
 use Rattle.po_base.specs.declared.numbers.FileNo.{FileNo}
 use Rattle.po_base.specs.declared.numbers.FunNo.{FunNo}
 use Rattle.po_core.specs.Book.{Book, IsPrimary, IsSupport, file_of_obl}
@@ -14,6 +14,11 @@ use Rattle.po_core.specs.declared.event.Mark.TheVariants.{Untaken, Taken, Settle
 use Rattle.po_core.specs.declared.obl.Obl.{Obl}
 use Rattle.po_core.specs.declared.obl.Verdict.{Verdict}
 use Rattle.po_core.specs.declared.obl.Verdict.TheVariants.{Delegated}
+
+-- no item of a list stands twice
+abbrev pub AreApart : {X : Type 0} → List X → Type 0
+AreApart [] = Unit {0}
+AreApart (x ∷ xs) = (¬ Contains xs x) × AreApart xs
 
 -- A core state: each known obligation with its mark, for each file by its number the hand that holds it, and what is
 -- assumed.
@@ -102,7 +107,7 @@ pub record Takes {P N T : Type 0} (b : Book P N T) (worker : ℕ) (file : FileNo
   pub has_hand : HasHand t file hand
   pub by_worker : hand.worker ≡ worker
   pub takes_all : (o : Obl P) → Contains hand.items o ↔ (IsUntaken s o × (file_of_obl b o ≡ file))
-  pub takes_once : AllPairs (λ x y. x ≢ y) hand.items
+  pub takes_once : AreApart hand.items
   pub marks : Remarks s t (λ o. file_of_obl b o ≡ file) Untaken Taken
   pub other_hands : KeepsOtherHands s t file
   pub assumed : KeepsAssumed s t

@@ -4,10 +4,11 @@ use Rattle.std.specs.List.{Contains, flat_map}
 use Rattle.po_base.specs.declared.numbers.FileNo.{FileNo}
 use Rattle.po_base.specs.declared.numbers.FunNo.{FunNo}
 use Rattle.po_core.specs.Book.{Book, file_of_obl}
-use Rattle.po_core.specs.Core.{CoreState, HasMark, IsKnown, IsUntaken, IsSettled, IsAssumed, IsInHand}
+use Rattle.po_core.specs.Core.{AreApart, CoreState, HasHand, HasMark, IsKnown, IsUntaken, IsSettled, IsAssumed, IsInHand}
 use Rattle.po_core.specs.Least.{IsReported, IsNeeded}
 use Rattle.po_core.specs.declared.event.Event.{Event}
 use Rattle.po_core.specs.declared.event.Event.TheVariants.{Settle}
+use Rattle.po_core.specs.declared.event.Hand.{Hand}
 use Rattle.po_core.specs.declared.event.Mark.{Mark}
 use Rattle.po_core.specs.declared.event.Mark.TheVariants.{Taken}
 use Rattle.po_core.specs.declared.obl.Cause.TheVariants.{Primary, Support}
@@ -40,13 +41,14 @@ pub record IsLeast {P N T : Type 0} (b : Book P N T) (es : List (Event P N)) (s 
   pub settled : (o : Obl P) → IsKnown s o → IsSettled s o (b.verdict_of o)
   pub once : (o : Obl P) → IsKnown s o → IsSettledOnce es o (b.verdict_of o)
 
--- Each known obligation has one mark and a function that is there, a hand has obligations of its file alone and no
--- untaken ones, and what is taken is in its file's hand.
+-- Each known obligation has one mark and a function that is there, a hand has obligations of its file alone, each
+-- once and none untaken, and what is taken is in its file's hand.
 pub record IsOrderly {P N T : Type 0} (b : Book P N T) (s : CoreState P N) : Type 0 where
   pub one_mark : (o : Obl P) (m n : Mark P N) → HasMark s o m → HasMark s o n → m ≡ n
   pub functions_there : (o : Obl P) → IsKnown s o → o.fun.0 < b.functions
   pub hands_known : (file : FileNo) (o : Obl P) → IsInHand s file o → IsKnown s o
   pub hands_of_file : (file : FileNo) (o : Obl P) → IsInHand s file o → file_of_obl b o ≡ file
+  pub hands_once : (file : FileNo) (hand : Hand P) → HasHand s file hand → AreApart hand.items
   pub hands_taken : (file : FileNo) (o : Obl P) → IsInHand s file o → ¬ IsUntaken s o
   pub taken_in_hand : (o : Obl P) → HasMark s o Taken → IsInHand s (file_of_obl b o) o
 

@@ -49,7 +49,7 @@ pub trait Rulebook {
     /// What verdicts of a function's obligations are read from. This may take long; the other calls are short.
     fn table(&self, alloc: Global, f: FunNo) -> Result<Self::Table, Memory>
         requires { f.0 < (meaning self.now).functions }
-        ensures { IfOk result (λ table. table ≡ (meaning self.now).table_of f) };
+        ensures { IfOk result (λ table. (meaning self.now).table_of f ≡ Some table) };
 
     /// The verdict of an obligation, read from its function's table.
     fn verdict(
@@ -58,7 +58,7 @@ pub trait Rulebook {
         o: &Obl<Self::Pred>,
         t: &Self::Table,
     ) -> Result<Verdict<Self::Pred, Self::Rule>, Memory>
-        requires { t.now ≡ (meaning self.now).table_of o.now.fun }
+        requires { (meaning self.now).table_of o.now.fun ≡ Some t.now }
         ensures { IfOk result (λ verdict. verdict ≡ (meaning self.now).verdict_of o.now) };
 
     ghost lawful: { (b : Self) → IsBook Self.Pred.eq (meaning b) };

@@ -12,6 +12,7 @@ returns g c = λ es s r.
       functions_there = λ o k. (p.known o k).0;
       hands_known = a.hands_known;
       hands_of_file = a.hands_of_file;
+      hands_once = a.hands_once;
       hands_taken = a.hands_taken;
       taken_in_hand = a.taken_in_hand;
     }

@@ -1,0 +1,9 @@
+pub mod Lists
+pub mod Adds
+pub mod Remarked
+pub mod Effects
+pub mod Room
+pub mod Kept
+pub mod Settled
+pub mod Items
+pub mod Taken

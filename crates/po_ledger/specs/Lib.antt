@@ -1,0 +1,5 @@
+pub mod View
+pub mod Calls
+pub mod Empty
+pub mod Parts
+pub mod Answers
