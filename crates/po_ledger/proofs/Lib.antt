@@ -7,3 +7,5 @@ pub mod Kept
 pub mod Settled
 pub mod Items
 pub mod Taken
+pub mod Starts
+pub mod Posted

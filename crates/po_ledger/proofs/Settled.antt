@@ -72,7 +72,7 @@ module _ {P N T : Type 0} (b : Book P N T) (s : CoreState P N) (order : IsOrderl
       let known = order.hands_known t.file o held in
       (held, mark_taken o known.0 known.1 (order.hands_taken t.file o held) (λ v d. false≢true ((f.same_settled o false (contains t.hand (o, false) h)).1 (v, d))))
 
-  same_item : (k : ℕ) (o p : Obl P) → IsOpenAt t k o → IsItemAt t k p → p ≡ o
+  pub same_item : (k : ℕ) (o p : Obl P) → IsOpenAt t k o → IsItemAt t k p → p ≡ o
   same_item k o p q i = let both : ◌≡◌ {A = Option (Obl P × Bool)} (Some (p, i.0)) (Some (o, false)) = sym i.1 ∙ q in ap (λ (z : Obl P × Bool). z.0) (same_Some (p, i.0) (o, false) both)
 
   pub settle_legal : (k : ℕ) (v : Verdict P N) (p : Obl P) → CanSettle b s t k v → IsItemAt t k p → IsLegal b s (Settle t.file p v)

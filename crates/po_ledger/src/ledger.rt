@@ -1,6 +1,7 @@
-ghost use Rattle.std.specs.Prelude.{◌≡◌, ◌↔◌, ◌<◌, [], ◌∷◌, ℕ, Bool, true, false, length, slice_set, IsTrue, IfOk, OnOk, OnErr, Some, slice_get};
+ghost use Rattle.std.specs.Prelude.{◌≡◌, ◌↔◌, ◌<◌, [], ◌∷◌, ℕ, Bool, true, false, length, slice_set, IsTrue, IfOk, IfSome, IfNone, OnOk, OnErr, Some, slice_get};
 ghost use Rattle.std.specs.List.{Contains};
 ghost use Rattle.po_core.specs.Core.{IsHeld, IsQuiet, IsLegal, CanTake, IsAssumed};
+ghost use Rattle.po_base.specs.declared.numbers.FileNo.{FileNo};
 ghost use Rattle.po_core.specs.declared.event.Event.TheVariants.{Take, Post, Settle, Give, PutBack, Ask};
 ghost use Rattle.po_core.specs.declared.obl.Obl.{Obl};
 ghost use Rattle.po_core.specs.declared.obl.Verdict.TheVariants.{Delegated};
@@ -105,20 +106,49 @@ impl<'r, R: Rulebook, J: Naming<R::Pred, R::Rule, R::Table>> Ledger<'r, R, J> {
         ensures ok { IfOk result (Answers J.book worker self.old self.new) }
         ensures err { OnErr result (self.new ≡ self.old) }
     {
-        legal_lists_are_orderly(self.book);
-        match takeable(self.book, self.marks.as_slice(), self.hands.as_slice()) {
+        match self.find_file() {
             Some(file) => {
                 let ticket = self.take_file(alloc, worker, file)?;
                 Ok(Next::Ticket(ticket))
             }
             None => {
-                if any_held(self.hands.as_slice()) {
+                if self.some_held() {
                     self.ask(worker, false)?;
                     return Ok(Next::Wait);
                 }
                 self.ask(worker, true)?;
                 Ok(Next::Done)
             }
+        }
+    }
+
+    /// A file that can be taken, where there is one.
+    fn find_file(&self) -> Option<FileNo>
+        ensures some { IfSome result (CanTake J.book self.now.state) }
+        ensures none { IfNone result ((file : FileNo) → ¬ CanTake J.book self.now.state file) }
+    {
+        legal_lists_are_orderly(self.book);
+        takeable(self.book, self.marks.as_slice(), self.hands.as_slice())
+    }
+
+    /// Whether some file is held.
+    fn some_held(&self) -> bool
+        ensures { IsTrue result ↔ ((file : FileNo) × IsHeld self.now.state file) }
+    {
+        any_held(self.hands.as_slice())
+    }
+
+    /// Whether all is done: no file is held and nothing is untaken. It takes no memory. Time: the number of known
+    /// obligations and of files.
+    pub fn quiet(&self) -> bool
+        ensures { IsTrue result ↔ IsQuiet self.now.state }
+    {
+        if self.some_held() {
+            return false;
+        }
+        match self.find_file() {
+            Some(_) => false,
+            None => true,
         }
     }
 
@@ -182,8 +212,8 @@ impl<'r, R: Rulebook, J: Naming<R::Pred, R::Rule, R::Table>> Ledger<'r, R, J> {
         let file = t.file();
         let pred = *q;
         let sites = self.book.call_sites(alloc, obl.fun)?;
-        let known = self.marks.len();
-        let assumed = self.assumed.len();
+        let known = self.marks.as_slice().len();
+        let assumed = self.assumed.as_slice().len();
         match extend(
             self.book,
             &mut self.marks,

@@ -11,4 +11,4 @@ pub returns-then-is_hand : goal.returns-then-is_hand
 returns-then-is_hand g c = (λ h. hand_read c.args.hands.now c.loop-i.i c.index-hands-i.result c.loop-i-test.true c.index-hands-i.is (c.is_hand.ensures.0 c.if-is_hand.true), λ h. refl)
 
 pub returns : goal.returns
-returns g c = (λ h. absurd (false≢true h), λ h. absurd (c.loop-i.invariant h.0.0 h.1 (let w = slice_get_within c.args.hands.now h.0.0 (Some h.1) h.2 in omega arith) h.2))
+returns g c = (λ h. absurd (false≢true h), λ h. absurd (c.loop-i.invariant h.0.0 h.1.0 (let w = slice_get_within c.args.hands.now h.0.0 (Some h.1.0) h.1.1 in omega arith) h.1.1))
