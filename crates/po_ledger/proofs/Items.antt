@@ -7,7 +7,7 @@ use Rattle.po_base.specs.declared.numbers.FunNo.{FunNo}
 use Rattle.po_core.specs.Book.{Book}
 use Rattle.po_core.specs.declared.obl.Obl.{Obl}
 use Rattle.po_core.proofs.Lists.{Has, has, contains}
-use Rattle.po_ledger.specs.View.{TicketView, IsTicket}
+use Rattle.po_ledger.specs.View.{TicketView, IsTicket, AreTables}
 use Rattle.po_ledger.proofs.Settled.{got_in}
 
 -- an item as it is read
@@ -37,3 +37,14 @@ pub ticket_with : {P T : Type 0} (inside now : TicketView P T) (h : List (Obl P 
 ticket_with {P} {T} inside now h k o q is =
     let first : ◌≡◌ {A = TicketView P T} (record inside { hand = h }) (record inside { hand = set inside.hand k (o, true) }) = ap (λ (z : List (Obl P × Bool)). record inside { hand = z }) is in
     first ∙ ap (λ (z : TicketView P T). let y : TicketView P T = record z { hand = set z.hand k (o, true) } in y) q
+
+pub item_there : {P N T : Type 0} (b of_book : Book P N T) (inside now : TicketView P T) (k : ℕ) (o : Obl P) → of_book ≡ b → inside ≡ now → IsTicket b inside.hand inside.tables → (x : Bool) × (slice_get now.hand k ≡ Some (o, x)) → o.fun.0 < of_book.functions
+item_there {P} {N} {T} b of_book inside now k o same seen t item =
+    let here : slice_get inside.hand k ≡ Some (o, item.0) = ap (λ (z : TicketView P T). slice_get z.hand k) seen ∙ item.1 in
+    subst (λ (z : Book P N T). o.fun.0 < z.functions) (sym same) (t.items_there o item.0 (contains inside.hand (o, item.0) (got_in inside.hand k (o, item.0) here)))
+
+pub tables_of : {P N T : Type 0} (b of_book : Book P N T) (tables : List (FunNo × T)) → of_book ≡ b → AreTables b tables → AreTables of_book tables
+tables_of {P} {N} {T} b of_book tables same h = subst (λ (z : Book P N T). AreTables z tables) (sym same) h
+
+pub ticket_tables : {P N T : Type 0} (b of_book : Book P N T) (hand : List (Obl P × Bool)) (old tables : List (FunNo × T)) → of_book ≡ b → IsTicket b hand old → AreTables of_book tables → IsTicket b hand tables
+ticket_tables {P} {N} {T} b of_book hand old tables same t h = record { items_there = t.items_there; tables_right = subst (λ (z : Book P N T). AreTables z tables) same h }

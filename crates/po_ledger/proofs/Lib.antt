@@ -9,3 +9,4 @@ pub mod Items
 pub mod Taken
 pub mod Starts
 pub mod Posted
+pub mod Tables

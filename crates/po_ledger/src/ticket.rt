@@ -1,4 +1,4 @@
-ghost use Rattle.std.specs.Prelude.{◌≡◌, ◌<◌, length, slice_set, true, IfOk, IfSome, IfNone, slice_get};
+ghost use Rattle.std.specs.Prelude.{◌≡◌, ◌<◌, length, slice_set, true, ◌↔◌, IsTrue, IfOk, IfSome, Some, slice_get};
 ghost use Rattle.std.specs.List.{Contains};
 ghost use Rattle.po_core.specs.declared.obl.Obl.{Obl};
 ghost use Rattle.po_ledger.specs.Calls.{IsItemAt, KeepsTicket, Judges};
@@ -93,20 +93,26 @@ impl<R: Rulebook, J: Naming<R::Pred, R::Rule, R::Table>> Ticket<R, J> {
         ensures value { IfOk result (Judges J.book self.old k) }
         ensures same { KeepsTicket self.old self.new }
     {
-        let entry = &self.hand.as_slice()[k];
-        let obl = entry.0;
+        let obl = *self.item(k);
         let at = table_place(alloc, book, &mut self.tables, obl.fun)?;
-        let table = &self.tables.as_slice()[at];
-        book.verdict(alloc, &obl, &table.1)
+        verdict_at(alloc, book, &obl, &self.tables, at)
     }
 }
 
+/// Whether a table is that of a function.
+fn is_table_of<T>(entry: &(FunNo, T), f: FunNo) -> bool
+    ensures { IsTrue result ↔ (entry.now.0 ≡ f) }
+{
+    entry.0 == f
+}
+
 /// The place of a function's table among some tables, where it is there. Time: the number of the tables.
-fn find_table<T>(tables: &[(FunNo, T)], f: FunNo) -> Option<usize>
+fn find_table<T: Drop>(tables: &List<(FunNo, T)>, f: FunNo) -> Option<usize>
     ensures { IfSome result (λ at. (table : T) × (slice_get tables.now at ≡ Some (f, table))) }
 {
-    for (at, entry) in tables.iter().enumerate() {
-        if entry.0 == f {
+    let all = tables.as_slice();
+    for at in 0..tables.len() {
+        if is_table_of(&all[at], f) {
             return Some(at);
         }
     }
@@ -125,7 +131,7 @@ fn table_place<R: Rulebook>(
     ensures right { AreTables (R.meaning book.now) tables.new }
     ensures found { IfOk result (λ at. (table : R.Table) × (slice_get tables.new at ≡ Some (f, table))) }
 {
-    match find_table(tables.as_slice(), f) {
+    match find_table(tables, f) {
         Some(at) => Ok(at),
         None => {
             let table = book.table(alloc, f)?;
@@ -134,4 +140,20 @@ fn table_place<R: Rulebook>(
             Ok(at)
         }
     }
+}
+
+/// A verdict that is read from the table at a place.
+fn verdict_at<R: Rulebook>(
+    alloc: Global,
+    book: &R,
+    obl: &Obl<R::Pred>,
+    tables: &List<(FunNo, R::Table)>,
+    at: usize,
+) -> Result<Verdict<R::Pred, R::Rule>, Memory>
+    requires right { AreTables (R.meaning book.now) tables.now }
+    requires found { (table : R.Table) × (slice_get tables.now at ≡ Some (obl.now.fun, table)) }
+    ensures { IfOk result (λ v. v ≡ (R.meaning book.now).verdict_of obl.now) }
+{
+    let entry = &tables.as_slice()[at];
+    book.verdict(alloc, obl, &entry.1)
 }
