@@ -65,4 +65,3 @@ apart_within {X = X} (x ∷ xs) ys a h =
     let rec : length xs ≤ length w.rest = apart_within xs w.rest a.1 (λ y k. elim (w.others y (h y (inr k))) [ inl e ↦ absurd (a.0 (contains xs x (subst (λ (z : X). Has xs z) e k))) | inr e ↦ e ]) in
     let short : length ys ≡ suc (length w.rest) = w.shorter in
     omega arith
-

@@ -87,7 +87,7 @@ module _ {P N T : Type 0} (b : Book P N T) (eq : P → P → Bool) (law : IsBook
       hands_known = λ G o h. elim (after_take G o h) [ inl x ↦ (Taken, (st.effect.marks o Taken).1 (inl (refl, x.1.0, x.1.1))) | inr x ↦ still_known s t (Take w F) st i o (i.hands_known G o x.1) ];
       hands_of_file = λ G o h. elim (after_take G o h) [ inl x ↦ x.1.1 ∙ sym x.0 | inr x ↦ i.hands_of_file G o x.1 ];
       hands_once = λ G hand h. elim (files_decided G F) [
-        inl q ↦ (let at : HasHand t F hand = subst (λ (x : FileNo). HasHand t x hand) q h in let is : hand ≡ st.effect.hand = same_hand hand st.effect.hand (sym at ∙ st.effect.has_hand) in subst (λ (x : Hand P). AreApart x.items) (sym is) st.effect.takes_once)
+        | inl q ↦ (let at : HasHand t F hand = subst (λ (x : FileNo). HasHand t x hand) q h in let is : hand ≡ st.effect.hand = same_hand hand st.effect.hand (sym at ∙ st.effect.has_hand) in subst (λ (x : Hand P). AreApart x.items) (sym is) st.effect.takes_once)
         | inr q ↦ i.hands_once G hand ((st.effect.other_hands G hand q).0 h)
       ];
       hands_taken = λ G o h u. elim ((st.effect.marks o Untaken).0 u) [

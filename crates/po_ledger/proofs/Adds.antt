@@ -1,5 +1,5 @@
 -- Obligations that are made known, one after the other.
-use Rattle.std.proofs.Common.{◌≡◌, ◌⊎◌, ℕ, ◌+◌, ◌<◌, List, [], ◌∷◌, ◌++◌, length, map, take, get_or, refl, sym, ◌∙◌, ap, subst, inl, inr, append_assoc}
+use Rattle.std.proofs.Common.{◌≡◌, ℕ, ◌+◌, ◌<◌, List, [], ◌∷◌, ◌++◌, length, map, take, get_or, sym, ◌∙◌, ap, subst, inl, inr, append_assoc}
 use Rattle.std.specs.List.{Contains}
 use Rattle.std.proofs.lemmas.List.{append-nil, map-append, take_more}
 use Rattle.std.proofs.lemmas.List.Elements.{Contains-push_cases, Contains-push, Contains-append_left, Contains-append_right, Contains-append_cases}
@@ -9,7 +9,7 @@ use Rattle.po_core.specs.declared.event.Mark.{Mark}
 use Rattle.po_core.specs.declared.event.Mark.TheVariants.{Untaken}
 use Rattle.po_core.specs.declared.obl.Obl.{Obl}
 use Rattle.po_ledger.specs.Parts.{HasKey, AddsUntaken, AddsEach}
-use Rattle.po_ledger.proofs.Lists.{take_read, key_of_mark, mark_of_key, apart_push}
+use Rattle.po_ledger.proofs.Lists.{key_of_mark, apart_push}
 
 pub adds_none : {P N : Type 0} (marks : List (Obl P × Mark P N)) → AddsEach [] marks marks
 adds_none marks = record {
@@ -34,21 +34,21 @@ module _ {P N : Type 0} where
         more = a.more ++ one ∷ [];
         extends = is ∙ (ap (λ (z : List (Obl P × Mark P N)). z ++ one ∷ []) a.extends ∙ append_assoc old a.more (one ∷ []));
         there = λ p h. elim (Contains-push_cases os o p h) [
-          inl k ↦ (let x = a.there p k in (x.0, subst (λ (z : List (Obl P × Mark P N)). Contains z (p, x.0)) (sym is) (Contains-append_left mid (one ∷ []) (p, x.0) x.1)))
+          | inl k ↦ (let x = a.there p k in (x.0, subst (λ (z : List (Obl P × Mark P N)). Contains z (p, x.0)) (sym is) (Contains-append_left mid (one ∷ []) (p, x.0) x.1)))
           | inr q ↦ (Untaken, subst (λ (z : Obl P). Contains new (z, Untaken)) q (subst (λ (z : List (Obl P × Mark P N)). Contains z one) (sym is) (Contains-push mid one)))
         ];
         fresh = λ p m h. elim (Contains-push_cases a.more one (p, m) h) [
-          inl k ↦ (let x = a.fresh p m k in (x.0, Contains-append_left os (o ∷ []) p x.1, x.2))
+          | inl k ↦ (let x = a.fresh p m k in (x.0, Contains-append_left os (o ∷ []) p x.1, x.2))
           | inr q ↦ (let x = same_parts o p Untaken m q in (
-              sym x.1,
-              subst (λ (z : Obl P). Contains (os ++ o ∷ []) z) x.0 (Contains-push os o),
-              λ k. fresh (subst (λ (z : Obl P). HasKey mid z) (sym x.0) (old_key os old mid a p k)),
-            ))
+            sym x.1,
+            subst (λ (z : Obl P). Contains (os ++ o ∷ []) z) x.0 (Contains-push os o),
+            λ k. fresh (subst (λ (z : Obl P). HasKey mid z) (sym x.0) (old_key os old mid a p k)),
+          ))
         ];
         apart = λ k.
-          let keys : (Obl P × Mark P N) → Obl P = λ e. e.0 in
-          let is_keys : map keys new ≡ map keys mid ++ o ∷ [] = ap (map keys) is ∙ map-append keys mid (one ∷ []) in
-          subst (λ (z : List (Obl P)). AreApart z) (sym is_keys) (apart_push (map keys mid) o (a.apart k) (λ h. fresh (key_of_mark mid o h)));
+            let keys : (Obl P × Mark P N) → Obl P = λ e. e.0 in
+            let is_keys : map keys new ≡ map keys mid ++ o ∷ [] = ap (map keys) is ∙ map-append keys mid (one ∷ []) in
+            subst (λ (z : List (Obl P)). AreApart z) (sym is_keys) (apart_push (map keys mid) o (a.apart k) (λ h. fresh (key_of_mark mid o h)));
       }
 
   adds_known : (os : List (Obl P)) (old mid new : List (Obl P × Mark P N)) (o : Obl P) → AddsEach os old mid → HasKey mid o → new ≡ mid → AddsEach (os ++ o ∷ []) old new
@@ -56,7 +56,7 @@ module _ {P N : Type 0} where
     more = a.more;
     extends = is ∙ a.extends;
     there = λ p h. elim (Contains-push_cases os o p h) [
-      inl k ↦ subst (λ (z : List (Obl P × Mark P N)). HasKey z p) (sym is) (a.there p k)
+      | inl k ↦ subst (λ (z : List (Obl P × Mark P N)). HasKey z p) (sym is) (a.there p k)
       | inr q ↦ subst (λ (z : List (Obl P × Mark P N)). HasKey z p) (sym is) (subst (λ (z : Obl P). HasKey mid z) q known)
     ];
     fresh = λ p m h. let x = a.fresh p m h in (x.0, Contains-append_left os (o ∷ []) p x.1, x.2);
@@ -79,7 +79,7 @@ module _ {P N : Type 0} where
     extends = c.extends ∙ (ap (λ (z : List (Obl P × Mark P N)). z ++ c.more) a.extends ∙ append_assoc old a.more c.more);
     there = λ p h. elim (Contains-append_cases os ps p h) [ inl k ↦ old_key ps mid new c p (a.there p k) | inr k ↦ c.there p k ];
     fresh = λ p m h. elim (Contains-append_cases a.more c.more (p, m) h) [
-      inl k ↦ (let x = a.fresh p m k in (x.0, Contains-append_left os ps p x.1, x.2))
+      | inl k ↦ (let x = a.fresh p m k in (x.0, Contains-append_left os ps p x.1, x.2))
       | inr k ↦ (let x = c.fresh p m k in (x.0, Contains-append_right os ps p x.1, λ y. x.2 (old_key os old mid a p y)))
     ];
     apart = λ k. c.apart (a.apart k);

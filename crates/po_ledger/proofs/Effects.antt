@@ -1,12 +1,11 @@
 -- What changed lists mean for the state that they are.
-use Rattle.std.proofs.Common.{◌≡◌, ◌≢◌, ◌⊎◌, ℕ, zero, suc, ◌+◌, ◌<◌, ◌≤◌, List, [], ◌∷◌, ◌++◌, length, map, get_or, set, refl, sym, ◌∙◌, ap, subst, inl, inr, arith}
+use Rattle.std.proofs.Common.{◌≡◌, ◌≢◌, ◌⊎◌, ℕ, zero, suc, ◌<◌, List, [], ◌∷◌, ◌++◌, length, map, get_or, set, refl, sym, ◌∙◌, ap, subst, inl, inr, arith}
 use Rattle.std.specs.Prelude.{Option, Some, None, slice_get, ◌↔◌}
 use Rattle.std.specs.List.{Contains}
-use Rattle.std.proofs.lemmas.List.Elements.{Contains-get_or, Contains-push_cases, Contains-push, Contains-append_left}
+use Rattle.std.proofs.lemmas.List.Elements.{Contains-get_or}
 use Rattle.po_base.specs.declared.numbers.FileNo.{FileNo}
-use Rattle.po_base.specs.declared.numbers.FunNo.{FunNo}
-use Rattle.po_core.specs.Book.{Book, file_of_obl}
-use Rattle.po_core.specs.Core.{CoreState, AreApart, HasMark, HasHand, KeepsOtherHands, Remarks, Steps, Runs, Replays}
+use Rattle.po_core.specs.Book.{Book}
+use Rattle.po_core.specs.Core.{CoreState, HasMark, HasHand, KeepsOtherHands, Remarks, Steps, Runs, Replays}
 use Rattle.po_core.specs.declared.event.Event.{Event}
 use Rattle.po_core.specs.declared.event.Hand.{Hand}
 use Rattle.po_core.specs.declared.event.Mark.{Mark}
@@ -49,18 +48,18 @@ module _ {P N T : Type 0} (b : Book P N T) (r : Remark P N) (xs ys : List (Obl P
       let first : x.0 ≡ o = sym e.0 ∙ ap (λ (z : Obl P × Mark P N). z.0) k.2 in
       let second : (get_or ys k.0 d).1 ≡ m = ap (λ (z : Obl P × Mark P N). z.1) k.2 in
       elim e.1 [
-        inl c ↦ inl (
+        | inl c ↦ inl (
           sym second ∙ c.1,
           subst (λ (z : Obl P). Contains xs (z, old_mark r)) first (subst (λ (z : Mark P N). Contains xs (x.0, z)) c.0.0 there),
           subst (λ (z : Obl P). IsMeant b r z) first c.0.1,
         )
         | inr c ↦ (
-          let same : x.1 ≡ m = sym c.1 ∙ second in
-          inr (
-            subst (λ (z : Obl P). Contains xs (z, m)) first (subst (λ (z : Mark P N). Contains xs (x.0, z)) same there),
-            λ w. c.0 (same ∙ w.0, subst (λ (z : Obl P). IsMeant b r z) (sym first) w.1),
-          )
-        )
+            let same : x.1 ≡ m = sym c.1 ∙ second in
+            inr (
+              subst (λ (z : Obl P). Contains xs (z, m)) first (subst (λ (z : Mark P N). Contains xs (x.0, z)) same there),
+              λ w. c.0 (same ∙ w.0, subst (λ (z : Obl P). IsMeant b r z) (sym first) w.1),
+            )
+            )
       ]
 
   -- the entry that one becomes
@@ -73,26 +72,29 @@ module _ {P N T : Type 0} (b : Book P N T) (r : Remark P N) (xs ys : List (Obl P
       (y.1, subst (λ (z : Obl P). Contains ys (z, y.1)) e.0 (Contains-get_or ys k.0 d within), e.1)
 
   pub remark_means : (o : Obl P) (m : Mark P N) → Contains ys (o, m) ↔ (((m ≡ new_mark r) × Contains xs (o, old_mark r) × IsMeant b r o) ⊎ (Contains xs (o, m) × ¬ ((m ≡ old_mark r) × IsMeant b r o)))
-  remark_means o m = (remark_back o m, λ c. elim c [
-    inl k ↦ (let f = remark_forth o (old_mark r) k.1 in elim f.2 [
-      inl x ↦ subst (λ (z : Mark P N). Contains ys (o, z)) (x.1 ∙ sym k.0) f.1
-      | inr x ↦ absurd (x.0 (refl, k.2))
-    ])
-    | inr k ↦ (let f = remark_forth o m k.0 in elim f.2 [
-      inl x ↦ absurd (k.1 x.0)
-      | inr x ↦ subst (λ (z : Mark P N). Contains ys (o, z)) x.1 f.1
-    ])
-  ])
+  remark_means o m = (
+    remark_back o m,
+    λ c. elim c [
+      | inl k ↦ (let f = remark_forth o (old_mark r) k.1 in elim f.2 [
+        | inl x ↦ subst (λ (z : Mark P N). Contains ys (o, z)) (x.1 ∙ sym k.0) f.1
+        | inr x ↦ absurd (x.0 (refl, k.2))
+      ])
+      | inr k ↦ (let f = remark_forth o m k.0 in elim f.2 [
+        | inl x ↦ absurd (k.1 x.0)
+        | inr x ↦ subst (λ (z : Mark P N). Contains ys (o, z)) x.1 f.1
+      ])
+    ],
+  )
 
 -- a remark means others where those are the same among what it marks
 pub remarks_like : {P N : Type 0} (s t : CoreState P N) (W V : Obl P → Type 0) (old new : Mark P N) → ((o : Obl P) → HasMark s o old → W o ↔ V o) → Remarks s t W old new → Remarks s t V old new
 remarks_like {N = N} s t W V old new like r o m = (
   λ h. elim ((r o m).0 h) [
-    inl x ↦ inl (x.0, x.1, (like o x.1).0 x.2)
+    | inl x ↦ inl (x.0, x.1, (like o x.1).0 x.2)
     | inr x ↦ inr (x.0, λ y. x.1 (y.0, (like o (subst (λ (z : Mark _ N). HasMark s o z) y.0 x.0)).1 y.1))
   ],
   λ h. (r o m).1 (elim h [
-    inl x ↦ inl (x.0, x.1, (like o x.1).1 x.2)
+    | inl x ↦ inl (x.0, x.1, (like o x.1).1 x.2)
     | inr x ↦ inr (x.0, λ y. x.1 (y.0, (like o (subst (λ (z : Mark _ N). HasMark s o z) y.0 x.0)).0 y.1))
   ]),
 )

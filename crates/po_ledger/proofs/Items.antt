@@ -1,6 +1,6 @@
 -- Items of a ticket's hand.
-use Rattle.std.proofs.Common.{◌≡◌, ◌⊎◌, ℕ, zero, suc, ◌<◌, List, [], ◌∷◌, length, set, get_or, refl, sym, ◌∙◌, ap, subst, inl, inr, arith}
-use Rattle.std.specs.Prelude.{Bool, true, Option, Some, slice_get}
+use Rattle.std.proofs.Common.{◌≡◌, ◌⊎◌, ℕ, zero, suc, ◌<◌, List, [], ◌∷◌, length, set, get_or, sym, ◌∙◌, ap, subst, inl, inr}
+use Rattle.std.specs.Prelude.{Bool, true, Some, slice_get}
 use Rattle.std.specs.List.{Contains}
 use Rattle.std.proofs.lemmas.Option.{slice_get-get_or}
 use Rattle.po_base.specs.declared.numbers.FunNo.{FunNo}
@@ -27,7 +27,7 @@ set_cases (x ∷ xs) (suc k) v z (inr h) = elim (set_cases xs k v z h) [ inl q �
 pub ticket_kept : {P N T : Type 0} (b : Book P N T) (hand later : List (Obl P × Bool)) (tables : List (FunNo × T)) (k : ℕ) (e : Obl P × Bool) → IsTicket b hand tables → slice_get hand k ≡ Some e → later ≡ set hand k (e.0, true) → IsTicket b later tables
 ticket_kept {P} b hand later tables k e t q is = record {
   items_there = λ o x h. elim (set_cases hand k (e.0, true) (o, x) (has _ (o, x) (subst (λ (z : List (Obl P × Bool)). Contains z (o, x)) is h))) [
-    inl s ↦ subst (λ (z : Obl P). z.fun.0 < b.functions) (sym (ap (λ (z : Obl P × Bool). z.0) s)) (t.items_there e.0 e.1 (contains hand e (got_in hand k e q)))
+    | inl s ↦ subst (λ (z : Obl P). z.fun.0 < b.functions) (sym (ap (λ (z : Obl P × Bool). z.0) s)) (t.items_there e.0 e.1 (contains hand e (got_in hand k e q)))
     | inr m ↦ t.items_there o x (contains hand (o, x) m)
   ];
   tables_right = t.tables_right;

@@ -1,28 +1,26 @@
 -- Each call is its event, and keeps what a ledger's fields keep.
-use Rattle.std.proofs.Common.{◌≡◌, ◌≢◌, ◌⊎◌, ℕ, zero, suc, ◌+◌, ◌-◌, ◌<◌, ◌≤◌, List, [], ◌∷◌, ◌++◌, length, map, set, get_or, refl, sym, ◌∙◌, ap, subst, inl, inr, arith, length-set}
-use Rattle.std.specs.Prelude.{Bool, true, false, Option, Some, None, slice_get, ◌↔◌, IsTrue}
+use Rattle.std.proofs.Common.{◌≡◌, ◌≢◌, ℕ, ◌+◌, ◌<◌, ◌≤◌, List, [], ◌∷◌, ◌++◌, length, map, set, refl, sym, ◌∙◌, ap, subst, inl, inr, arith, length-set}
+use Rattle.std.specs.Prelude.{Bool, Option, Some, None, slice_get}
 use Rattle.std.specs.List.{Contains}
-use Rattle.std.proofs.lemmas.Bool.{cases_eq, false≢true}
+use Rattle.std.proofs.lemmas.Bool.{cases_eq}
 use Rattle.std.proofs.lemmas.Option.{slice_get_within}
 use Rattle.po_base.specs.declared.numbers.FileNo.{FileNo}
 use Rattle.po_base.specs.declared.numbers.FunNo.{FunNo}
-use Rattle.po_core.specs.Book.{Book, IsBook, file_of_obl}
-use Rattle.po_core.specs.Core.{AreApart, CoreState, HasMark, HasHand, IsHeld, IsHeldBy, IsInHand, IsUnsettled, IsAssumed, IsSettled, IsUntaken, CanTake, Takes, Posts, Settles, Frees, Keeps, KeepsAssumed, Steps, Replays, IsLegal}
+use Rattle.po_core.specs.Book.{Book, file_of_obl}
+use Rattle.po_core.specs.Core.{AreApart, CoreState, HasMark, IsHeld, IsInHand, CanTake, Takes, Frees, KeepsAssumed, Steps, Replays, IsLegal}
 use Rattle.po_core.specs.Theorem.{IsOrderly}
 use Rattle.po_core.specs.declared.event.Event.{Event}
-use Rattle.po_core.specs.declared.event.Event.TheVariants.{Take, Post, Settle, Give, PutBack, Ask}
+use Rattle.po_core.specs.declared.event.Event.TheVariants.{Take, Settle, Give, PutBack, Ask}
 use Rattle.po_core.specs.declared.event.Hand.{Hand}
 use Rattle.po_core.specs.declared.event.Mark.{Mark}
-use Rattle.po_core.specs.declared.event.Mark.TheVariants.{Untaken, Taken, Settled}
+use Rattle.po_core.specs.declared.event.Mark.TheVariants.{Untaken, Taken}
 use Rattle.po_core.specs.declared.obl.Obl.{Obl}
 use Rattle.po_core.specs.declared.obl.Verdict.{Verdict}
-use Rattle.po_core.specs.declared.obl.Verdict.TheVariants.{Delegated}
-use Rattle.po_core.proofs.Lists.{Has, has, contains, contains_map, has_from_map}
-use Rattle.po_core.proofs.Members.{files_decided, settled_taken, settled_untaken, taken_untaken}
-use Rattle.po_core.proofs.Orderly.{same_hand}
-use Rattle.po_ledger.specs.Calls.{Does, CanSettle, SettlesItem, CanGive, HandsOut, IsOpenAt}
-use Rattle.po_ledger.specs.Parts.{IsRemarked, TakesFrom, HandAt}
-use Rattle.po_ledger.specs.View.{LedgerView, TicketView, IsKept, IsLedger, IsRoomFor, AreTables, Fits, items_of}
+use Rattle.po_core.proofs.Lists.{has}
+use Rattle.po_core.proofs.Members.{settled_taken, taken_untaken}
+use Rattle.po_ledger.specs.Calls.{Does}
+use Rattle.po_ledger.specs.Parts.{IsRemarked, TakesFrom}
+use Rattle.po_ledger.specs.View.{LedgerView, IsKept, IsRoomFor, AreTables}
 use Rattle.po_ledger.specs.declared.marks.Remark.{Remark}
 use Rattle.po_ledger.specs.declared.marks.Remark.TheVariants as r
 use Rattle.po_ledger.proofs.Effects.{remark_means, keys_same, remarks_like, other_hands_kept, now_held, now_free, replays_more, get_set_same, get_set_other}
@@ -103,13 +101,13 @@ module _ {P N T : Type 0} (b : Book P N T) (of_book : Book P N T) (l m : LedgerV
       hands
       (ap length is ∙ length-set shelves file.0 [])
       (λ at tables h. elim (cases_eq at file.0) [
-        inl q ↦ (λ f table c. absurd (
-          let there : at < length later = slice_get_within later at tables h in
-          let long : length later ≡ length shelves = ap length is ∙ length-set shelves file.0 [] in
-          let put : slice_get later at ≡ Some [] = ap (λ (z : List (List (FunNo × T))). slice_get z at) is ∙ (ap (λ (j : ℕ). slice_get (set shelves file.0 []) j) q ∙ get_set_same shelves file.0 [] (omega (arith, q))) in
-          let both : ◌≡◌ {A = Option (List (FunNo × T))} (Some []) (Some tables) = sym put ∙ h in
-          let none : [] ≡ tables = cc in
-          has [] (f, table) (subst (λ (z : List (FunNo × T)). Contains z (f, table)) (sym none) c)))
+        | inl q ↦ (λ f table c. absurd (
+            let there : at < length later = slice_get_within later at tables h in
+            let long : length later ≡ length shelves = ap length is ∙ length-set shelves file.0 [] in
+            let put : slice_get later at ≡ Some [] = ap (λ (z : List (List (FunNo × T))). slice_get z at) is ∙ (ap (λ (j : ℕ). slice_get (set shelves file.0 []) j) q ∙ get_set_same shelves file.0 [] (omega (arith, q))) in
+            let both : ◌≡◌ {A = Option (List (FunNo × T))} (Some []) (Some tables) = sym put ∙ h in
+            let none : [] ≡ tables = cc in
+            has [] (f, table) (subst (λ (z : List (FunNo × T)). Contains z (f, table)) (sym none) c)))
         | inr ne ↦ k.shelved at tables (sym (get_set_other shelves file.0 at [] ne) ∙ (ap (λ (z : List (List (FunNo × T))). slice_get z at) (sym is) ∙ h))
       ])
 
@@ -130,7 +128,7 @@ module _ {P N T : Type 0} (b : Book P N T) (of_book : Book P N T) (l m : LedgerV
   pub settle_kept : (file : FileNo) (o : Obl P) (v : Verdict P N) (did : Does b (Settle file o v) l m) → IsRemarked b (r.Settle o v) l.state.marks m.state.marks → m.state.hands ≡ l.state.hands → l.spare ≤ m.spare + 1 → IsKept b of_book m shelves
   settle_kept file o v did marks hands le = kept_after shelves (Settle file o v) did
       (room_settled l.state m.state l.spare m.spare k.ledger.room o did.steps.legal.0.1 (λ p h. elim ((did.steps.effect.marks p Taken).0 h) [
-        inl x ↦ absurd (settled_taken v (sym x.0))
+        | inl x ↦ absurd (settled_taken v (sym x.0))
         | inr x ↦ (x.0, λ q. x.1 (refl, q))
       ]) (λ f h. (h.0, (did.steps.effect.hands f h.0).0 h.1)) le)
       (remarked_apart (r.Settle o v) marks) (ap length hands) refl k.shelved
@@ -159,13 +157,13 @@ module _ {P N T : Type 0} (b : Book P N T) (of_book : Book P N T) (l m : LedgerV
       hands
       (ap length is ∙ length-set shelves file.0 tables)
       (λ at here h. elim (cases_eq at file.0) [
-        inl q ↦ (
-          let there : at < length later = slice_get_within later at here h in
-          let long : length later ≡ length shelves = ap length is ∙ length-set shelves file.0 tables in
-          let put : slice_get later at ≡ Some tables = ap (λ (z : List (List (FunNo × T))). slice_get z at) is ∙ (ap (λ (j : ℕ). slice_get (set shelves file.0 tables) j) q ∙ get_set_same shelves file.0 tables (omega (arith, q))) in
-          let both : ◌≡◌ {A = Option (List (FunNo × T))} (Some tables) (Some here) = sym put ∙ h in
-          let one : tables ≡ here = cc in
-          subst (λ (z : List (FunNo × T)). AreTables b z) one right)
+        | inl q ↦ (
+            let there : at < length later = slice_get_within later at here h in
+            let long : length later ≡ length shelves = ap length is ∙ length-set shelves file.0 tables in
+            let put : slice_get later at ≡ Some tables = ap (λ (z : List (List (FunNo × T))). slice_get z at) is ∙ (ap (λ (j : ℕ). slice_get (set shelves file.0 tables) j) q ∙ get_set_same shelves file.0 tables (omega (arith, q))) in
+            let both : ◌≡◌ {A = Option (List (FunNo × T))} (Some tables) (Some here) = sym put ∙ h in
+            let one : tables ≡ here = cc in
+            subst (λ (z : List (FunNo × T)). AreTables b z) one right)
         | inr ne ↦ k.shelved at here (sym (get_set_other shelves file.0 at tables ne) ∙ (ap (λ (z : List (List (FunNo × T))). slice_get z at) (sym is) ∙ h))
       ])
 
@@ -173,10 +171,13 @@ module _ {P N T : Type 0} (b : Book P N T) (of_book : Book P N T) (l m : LedgerV
   put_back_does file order held free marks grows = record {
     steps = record {
       legal = held;
-      effect = (free, remarks_like l.state m.state (λ o. file_of_obl b o ≡ file) (λ o. IsInHand l.state file o) Taken Untaken (λ o h. (
-        λ q. subst (λ (z : FileNo). IsInHand l.state z o) q (order.taken_in_hand o h),
-        λ x. order.hands_of_file file o x,
-      )) (remark_means b (r.PutBack file) l.state.marks m.state.marks marks));
+      effect = (
+        free,
+        remarks_like l.state m.state (λ o. file_of_obl b o ≡ file) (λ o. IsInHand l.state file o) Taken Untaken (λ o h. (
+          λ q. subst (λ (z : FileNo). IsInHand l.state z o) q (order.taken_in_hand o h),
+          λ x. order.hands_of_file file o x,
+        )) (remark_means b (r.PutBack file) l.state.marks m.state.marks marks),
+      );
     };
     appends = grows;
   }

@@ -1,7 +1,7 @@
 -- Marks in a list.
 use Rattle.std.proofs.Common.{◌≡◌, ◌⊎◌, ℕ, ◌+◌, ◌<◌, List, [], ◌∷◌, ◌++◌, length, map, take, get_or, refl, sym, ◌∙◌, ap, subst, inl, inr, arith, zero, suc}
 use Rattle.std.specs.List.{Contains}
-use Rattle.std.proofs.lemmas.List.{take_more, get_or_read}
+use Rattle.std.proofs.lemmas.List.{take_more}
 use Rattle.std.proofs.lemmas.List.Elements.{Contains-push_cases}
 use Rattle.po_core.proofs.Lists.{Has, has, contains, contains_map, has_from_map}
 use Rattle.po_core.specs.Core.{AreApart}
@@ -40,7 +40,7 @@ pub apart_push : {X : Type 0} (xs : List X) (x : X) → AreApart xs → ¬ Conta
 apart_push [] x a other = (λ h. has [] x h, tt)
 apart_push {X = X} (y ∷ ys) x a other = (
   λ h. elim (Contains-push_cases ys x y h) [
-    inl k ↦ a.0 k
+    | inl k ↦ a.0 k
     | inr q ↦ other (contains (y ∷ ys) x (inl (sym q)))
   ],
   apart_push ys x a.1 (λ h. other (contains (y ∷ ys) x (inr (has ys x h)))),
@@ -66,7 +66,7 @@ front_more {X} xs i e x l q h = subst (λ (z : List X). Contains z x) (sym (take
 module _ {P N T : Type 0} (b : Book P N T) where
   pub none_more : (marks : List (Obl P × Mark P N)) (hands : List (Option (Hand P))) (i : ℕ) (e : Obl P × Mark P N) → i < length marks → e ≡ get_or marks i e → NoneTakeable b (take i marks) hands → (e.1 ≡ Untaken → HandAt hands (file_of_obl b e.0)) → NoneTakeable b (take (i + 1) marks) hands
   none_more marks hands i e l q none here o h = elim (front_cases marks i e (o, Untaken) l q h) [
-    inl k ↦ none o k
+    | inl k ↦ none o k
     | inr k ↦ subst (λ (z : Obl P). HandAt hands (file_of_obl b z)) (ap (λ (z : Obl P × Mark P N). z.0) k) (here (ap (λ (z : Obl P × Mark P N). z.1) k))
   ]
 
@@ -77,7 +77,7 @@ module _ {P N T : Type 0} (b : Book P N T) where
   key_once (x ∷ xs) (suc i) e a l q m h =
       let later : i < length xs = omega arith in
       elim h [
-        inl k ↦ a.0 (mark_of_key xs x.0 (e.1, subst (λ (z : Obl P). Contains xs (z, e.1)) (ap (λ (z : Obl P × Mark P N). z.0) (sym k)) (read_in xs i e later q)))
+        | inl k ↦ a.0 (mark_of_key xs x.0 (e.1, subst (λ (z : Obl P). Contains xs (z, e.1)) (ap (λ (z : Obl P × Mark P N). z.0) (sym k)) (read_in xs i e later q)))
         | inr k ↦ key_once xs i e a.1 later q m k
       ]
 
@@ -91,11 +91,11 @@ module _ {P N T : Type 0} (b : Book P N T) where
       record {
         all = λ o. (
           λ h. elim (Contains-push_cases items e.0 o (subst (λ (z : List (Obl P)). Contains z o) p.1 h)) [
-            inl k ↦ (let x = (t.all o).0 k in (front_more marks i e (o, Untaken) l q x.0, x.1))
+            | inl k ↦ (let x = (t.all o).0 k in (front_more marks i e (o, Untaken) l q x.0, x.1))
             | inr k ↦ (subst (λ (z : Obl P × Mark P N). Contains (take (i + 1) marks) z) (entry o k) (front_last marks i e l q), subst (λ (z : Obl P). file_of_obl b z ≡ file) k p.0.1)
           ],
           λ h. subst (λ (z : List (Obl P)). Contains z o) (sym p.1) (elim (front_cases marks i e (o, Untaken) l q h.0) [
-            inl k ↦ Contains-append_left items (e.0 ∷ []) o ((t.all o).1 (k, h.1))
+            | inl k ↦ Contains-append_left items (e.0 ∷ []) o ((t.all o).1 (k, h.1))
             | inr k ↦ subst (λ (z : Obl P). Contains (items ++ e.0 ∷ []) z) (ap (λ (z : Obl P × Mark P N). z.0) k) (Contains-push items e.0)
           ]),
         );
@@ -105,7 +105,7 @@ module _ {P N T : Type 0} (b : Book P N T) where
     all = λ o. (
       λ h. let x = (t.all o).0 (subst (λ (z : List (Obl P)). Contains z o) p.1 h) in (front_more marks i e (o, Untaken) l q x.0, x.1),
       λ h. subst (λ (z : List (Obl P)). Contains z o) (sym p.1) (elim (front_cases marks i e (o, Untaken) l q h.0) [
-        inl k ↦ (t.all o).1 (k, h.1)
+        | inl k ↦ (t.all o).1 (k, h.1)
         | inr k ↦ absurd (p.0 (ap (λ (z : Obl P × Mark P N). z.1) k, subst (λ (z : Obl P). file_of_obl b z ≡ file) (sym (ap (λ (z : Obl P × Mark P N). z.0) k)) h.1))
       ]),
     );
@@ -115,12 +115,12 @@ module _ {P N T : Type 0} (b : Book P N T) where
 -- hands up to one more place
 pub no_hand_more : {P : Type 0} (hands : List (Option (Hand P))) (i : ℕ) (e : Option (Hand P)) → i < length hands → e ≡ get_or hands i e → ((k : ℕ) (hand : Hand P) → k < i → slice_get hands k ≡ Some (Some hand) → ⊥) → (IsSome e → ⊥) → (k : ℕ) (hand : Hand P) → k < i + 1 → slice_get hands k ≡ Some (Some hand) → ⊥
 no_hand_more {P} hands i e l q before here k hand lt h = elim (cases_eq k i) [
-  inl same ↦ (
-    let at : slice_get hands i ≡ Some e = slice_get_read hands (length hands) i e refl l q in
-    let both : ◌≡◌ {A = Option (Option (Hand P))} (Some e) (Some (Some hand)) = sym at ∙ (ap (λ (j : ℕ). slice_get hands j) (sym same) ∙ h) in
-    let is : e ≡ Some hand = cc in
-    here (rw is refl)
-  )
+  | inl same ↦ (
+      let at : slice_get hands i ≡ Some e = slice_get_read hands (length hands) i e refl l q in
+      let both : ◌≡◌ {A = Option (Option (Hand P))} (Some e) (Some (Some hand)) = sym at ∙ (ap (λ (j : ℕ). slice_get hands j) (sym same) ∙ h) in
+      let is : e ≡ Some hand = cc in
+      here (rw is refl)
+      )
   | inr ne ↦ before k hand (let other : k ≡ i → ⊥ = ne in omega arith) h
 ]
 

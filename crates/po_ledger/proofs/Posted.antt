@@ -1,34 +1,32 @@
 -- Posting a predicate for an item of a ticket that fits.
-use Rattle.std.proofs.Common.{◌≡◌, ◌≢◌, ◌⊎◌, ℕ, ◌+◌, ◌-◌, ◌<◌, ◌≤◌, List, [], ◌∷◌, ◌++◌, length, map, take, refl, sym, ◌∙◌, ap, subst, inl, inr, arith}
-use Rattle.std.specs.Prelude.{Bool, true, false, Option, Some, slice_get, ◌↔◌}
+use Rattle.std.proofs.Common.{◌≡◌, ◌⊎◌, ℕ, ◌-◌, ◌<◌, ◌≤◌, List, [], ◌∷◌, ◌++◌, length, map, take, refl, sym, ◌∙◌, ap, subst, inl, inr}
+use Rattle.std.specs.Prelude.{false, Option, slice_get}
 use Rattle.std.specs.List.{Contains}
 use Rattle.std.proofs.lemmas.List.{take_at}
-use Rattle.std.proofs.lemmas.Option.{same_Some}
 use Rattle.std.proofs.lemmas.List.Elements.{Contains-append_left, Contains-append_cases, Contains-push, Contains-push_cases}
 use Rattle.po_base.specs.declared.numbers.FileNo.{FileNo}
 use Rattle.po_base.specs.declared.numbers.FunNo.{FunNo}
 use Rattle.po_base.specs.declared.numbers.NodeNo.{NodeNo}
 use Rattle.po_core.specs.Book.{Book, IsSupport}
-use Rattle.po_core.specs.Core.{CoreState, HasMark, IsKnown, IsAssumed, IsSettled, IsHeld, IsInHand, Posts, Replays, IsLegal}
+use Rattle.po_core.specs.Core.{CoreState, HasMark, IsAssumed, Posts, Replays, IsLegal}
 use Rattle.po_core.specs.Theorem.{IsOrderly}
 use Rattle.po_core.specs.declared.event.Event.{Event}
 use Rattle.po_core.specs.declared.event.Event.TheVariants.{Post}
 use Rattle.po_core.specs.declared.event.Hand.{Hand}
 use Rattle.po_core.specs.declared.event.Mark.{Mark}
-use Rattle.po_core.specs.declared.event.Mark.TheVariants.{Untaken, Taken, Settled}
+use Rattle.po_core.specs.declared.event.Mark.TheVariants.{Taken, Settled}
 use Rattle.po_core.specs.declared.obl.Cause.{Cause}
 use Rattle.po_core.specs.declared.obl.Cause.TheVariants.{Support}
 use Rattle.po_core.specs.declared.obl.Obl.{Obl}
-use Rattle.po_core.specs.declared.obl.Verdict.{Verdict}
 use Rattle.po_core.specs.declared.obl.Verdict.TheVariants.{Delegated}
-use Rattle.po_core.proofs.Lists.{Has, has, contains, contains_map, has_from_map}
+use Rattle.po_core.proofs.Lists.{has, contains, contains_map, has_from_map}
 use Rattle.po_core.proofs.Members.{settled_untaken, taken_untaken}
 use Rattle.po_ledger.specs.Calls.{Does, CanPost, PostsItem, IsOpenAt, IsItemAt}
-use Rattle.po_ledger.specs.Parts.{HasKey, AddsEach, AddsItem, supports_of}
-use Rattle.po_ledger.specs.View.{LedgerView, TicketView, IsKept, Fits, view_of}
+use Rattle.po_ledger.specs.Parts.{AddsEach, AddsItem, supports_of}
+use Rattle.po_ledger.specs.View.{LedgerView, TicketView, IsKept, view_of}
 use Rattle.po_ledger.proofs.Kept.{does_seen, order_here, kept_after}
 use Rattle.po_ledger.proofs.Room.{room_kept}
-use Rattle.po_ledger.proofs.Settled.{got_in, item_in_hand, open_unsettled, same_item}
+use Rattle.po_ledger.proofs.Settled.{got_in, open_unsettled, same_item}
 
 module _ {P N T : Type 0} (b : Book P N T) (f : FunNo) (q : P) (s t : CoreState P N) (sites : List (FunNo × NodeNo)) (all : sites ≡ b.call_sites f) (adds : AddsEach (supports_of q sites) s.marks t.marks) (assumes : AddsItem s.assumed t.assumed (f, q)) (hands : t.hands ≡ s.hands) where
   support_at : (o : Obl P) → Contains (supports_of q sites) o → IsSupport b f q o
@@ -52,22 +50,22 @@ module _ {P N T : Type 0} (b : Book P N T) (f : FunNo) (q : P) (s t : CoreState 
 
   assumed_cases : (g : FunNo) (r : P) → IsAssumed t g r → IsAssumed s g r ⊎ ((g ≡ f) × (r ≡ q))
   assumed_cases g r h = elim assumes [
-    inl x ↦ inl (subst (λ (z : List (FunNo × P)). Contains z (g, r)) x.1 h)
+    | inl x ↦ inl (subst (λ (z : List (FunNo × P)). Contains z (g, r)) x.1 h)
     | inr x ↦ elim (Contains-push_cases s.assumed (f, q) (g, r) (subst (λ (z : List (FunNo × P)). Contains z (g, r)) x h)) [
-      inl k ↦ inl k
+      | inl k ↦ inl k
       | inr k ↦ inr (ap (λ (z : FunNo × P). z.0) (sym k), ap (λ (z : FunNo × P). z.1) (sym k))
     ]
   ]
 
   now_assumed : IsAssumed t f q
   now_assumed = elim assumes [
-    inl x ↦ subst (λ (z : List (FunNo × P)). Contains z (f, q)) (sym x.1) x.0
+    | inl x ↦ subst (λ (z : List (FunNo × P)). Contains z (f, q)) (sym x.1) x.0
     | inr x ↦ subst (λ (z : List (FunNo × P)). Contains z (f, q)) (sym x) (Contains-push s.assumed (f, q))
   ]
 
   still_assumed : (g : FunNo) (r : P) → IsAssumed s g r → IsAssumed t g r
   still_assumed g r h = elim assumes [
-    inl x ↦ subst (λ (z : List (FunNo × P)). Contains z (g, r)) (sym x.1) h
+    | inl x ↦ subst (λ (z : List (FunNo × P)). Contains z (g, r)) (sym x.1) h
     | inr x ↦ subst (λ (z : List (FunNo × P)). Contains z (g, r)) (sym x) (Contains-append_left s.assumed ((f, q) ∷ []) (g, r) h)
   ]
 
@@ -78,14 +76,14 @@ module _ {P N T : Type 0} (b : Book P N T) (f : FunNo) (q : P) (s t : CoreState 
     marks = λ o m. (
       λ h. elim (mark_cases o m h) [ inl x ↦ inl x | inr x ↦ (let y = adds.fresh o m x in inr (y.0, support_at o y.1, y.2)) ],
       λ h. elim h [
-        inl x ↦ old_mark_kept o m x
+        | inl x ↦ old_mark_kept o m x
         | inr x ↦ (
-          let k = adds.there o (at_support o x.1) in
-          elim (mark_cases o k.0 k.1) [
-            inl y ↦ absurd (x.2 (k.0, y))
-            | inr y ↦ subst (λ (z : Mark P N). HasMark t o z) ((adds.fresh o k.0 y).0 ∙ sym x.0) k.1
-          ]
-        )
+            let k = adds.there o (at_support o x.1) in
+            elim (mark_cases o k.0 k.1) [
+              | inl y ↦ absurd (x.2 (k.0, y))
+              | inr y ↦ subst (λ (z : Mark P N). HasMark t o z) ((adds.fresh o k.0 y).0 ∙ sym x.0) k.1
+            ]
+            )
       ],
     );
     hands = λ g h. (λ x. ap (λ (z : List (Option (Hand P))). slice_get z g.0) (sym hands) ∙ x, λ x. ap (λ (z : List (Option (Hand P))). slice_get z g.0) hands ∙ x);

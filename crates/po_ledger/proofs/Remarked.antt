@@ -1,5 +1,5 @@
 -- Marks that are changed one after the other.
-use Rattle.std.proofs.Common.{◌≡◌, ◌≢◌, ◌⊎◌, ℕ, ◌+◌, ◌<◌, ◌≤◌, List, [], ◌∷◌, length, map, get_or, set, refl, sym, ◌∙◌, ap, subst, inl, inr, arith, get_or-set_same, get_or-set_other}
+use Rattle.std.proofs.Common.{◌≡◌, ℕ, ◌+◌, ◌<◌, ◌≤◌, List, length, get_or, set, refl, sym, ◌∙◌, ap, inl, inr, arith, get_or-set_same, get_or-set_other}
 use Rattle.std.proofs.lemmas.Bool.{cases_eq}
 use Rattle.std.proofs.lemmas.List.{get_or_default}
 use Rattle.po_core.specs.Book.{Book}
@@ -24,16 +24,16 @@ module _ {P N T : Type 0} (b : Book P N T) (r : Remark P N) where
       let within : i < length now = omega (arith, same) in
       record {
         done = λ k d lt. elim (cases_eq k i) [
-          inl q ↦ (
-            let x : e ≡ get_or old k d = is ∙ (get_or_default now i e d within ∙ (h.left i d (omega arith) ∙ ap (λ (j : ℕ). get_or old j d) (sym q))) in
-            let y : v ≡ get_or (set now i v) k d = sym (get_or-set_same now i v d within) ∙ ap (λ (j : ℕ). get_or (set now i v) j d) (sym q) in
-            both_along Becomes x y (refl, after)
-          )
+          | inl q ↦ (
+              let x : e ≡ get_or old k d = is ∙ (get_or_default now i e d within ∙ (h.left i d (omega arith) ∙ ap (λ (j : ℕ). get_or old j d) (sym q))) in
+              let y : v ≡ get_or (set now i v) k d = sym (get_or-set_same now i v d within) ∙ ap (λ (j : ℕ). get_or (set now i v) j d) (sym q) in
+              both_along Becomes x y (refl, after)
+              )
           | inr ne ↦ (
-            let y : get_or now k d ≡ get_or (set now i v) k d = sym (get_or-set_other now i k v d ne) in
-            let below : k < i = (let other : k ≡ i → ⊥ = ne in omega arith) in
-            both_along Becomes refl y (h.done k d below)
-          )
+              let y : get_or now k d ≡ get_or (set now i v) k d = sym (get_or-set_other now i k v d ne) in
+              let below : k < i = (let other : k ≡ i → ⊥ = ne in omega arith) in
+              both_along Becomes refl y (h.done k d below)
+              )
         ];
         left = λ k d le. get_or-set_other now i k v d (λ q. let is : k ≡ i = q in omega arith) ∙ h.left k d (omega arith);
       }

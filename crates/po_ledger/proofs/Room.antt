@@ -1,12 +1,12 @@
 -- Room for what is held, after each event.
-use Rattle.std.proofs.Common.{◌≡◌, ◌≢◌, ◌⊎◌, ℕ, ◌+◌, ◌≤◌, List, [], ◌∷◌, length, refl, sym, ◌∙◌, subst, inl, inr, arith}
+use Rattle.std.proofs.Common.{◌≡◌, ◌≢◌, ◌⊎◌, ℕ, ◌+◌, ◌≤◌, List, [], ◌∷◌, length, refl, sym, subst, inl, inr, arith}
 use Rattle.std.specs.List.{Contains}
 use Rattle.po_base.specs.declared.numbers.FileNo.{FileNo}
 use Rattle.po_core.specs.Book.{Book}
-use Rattle.po_core.specs.Core.{AreApart, CoreState, HasMark, HasHand, IsHeld, Takes}
+use Rattle.po_core.specs.Core.{AreApart, CoreState, HasMark, IsHeld, Takes}
 use Rattle.po_core.specs.declared.event.Mark.TheVariants.{Taken}
 use Rattle.po_core.specs.declared.obl.Obl.{Obl}
-use Rattle.po_core.proofs.Lists.{Has, has, contains, apart_within}
+use Rattle.po_core.proofs.Lists.{has, contains, apart_within}
 use Rattle.po_core.proofs.Members.{files_decided}
 use Rattle.po_ledger.specs.View.{IsRoomFor}
 
@@ -24,9 +24,15 @@ record Parted {X : Type 0} (A B : X → Type 0) (xs : List X) : Type 0 where
 
 parted : {X : Type 0} (A B : X → Type 0) (xs : List X) → AreApart xs → ((x : X) → Contains xs x → A x ⊎ B x) → Parted A B xs
 parted A B [] a h = record {
-  left = []; right = []; left_apart = tt; right_apart = tt;
-  left_all = λ x k. absurd (has [] x k); right_all = λ x k. absurd (has [] x k);
-  left_within = λ x k. k; right_within = λ x k. k; enough = omega arith;
+  left = [];
+  right = [];
+  left_apart = tt;
+  right_apart = tt;
+  left_all = λ x k. absurd (has [] x k);
+  right_all = λ x k. absurd (has [] x k);
+  left_within = λ x k. k;
+  right_within = λ x k. k;
+  enough = omega arith;
 }
 parted {X} A B (x ∷ xs) a h =
     let rest : Parted A B xs = parted A B xs a.1 (λ y k. h y (contains (x ∷ xs) y (inr (has xs y k)))) in
@@ -34,7 +40,7 @@ parted {X} A B (x ∷ xs) a h =
     let now : (zs : List X) (y : X) → ((z : X) → Contains zs z → Contains xs z) → Contains (x ∷ zs) y → Contains (x ∷ xs) y = λ zs y w k. elim (has (x ∷ zs) y k) [ inl q ↦ contains (x ∷ xs) y (inl q) | inr m ↦ later y (w y (contains zs y m)) ] in
     let few : length xs ≤ length rest.left + length rest.right = rest.enough in
     elim (h x (contains (x ∷ xs) x (inl refl))) [
-      inl one ↦ record {
+      | inl one ↦ record {
         left = x ∷ rest.left;
         right = rest.right;
         left_apart = (λ k. a.0 (rest.left_within x k), rest.left_apart);

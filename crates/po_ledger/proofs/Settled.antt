@@ -1,13 +1,13 @@
 -- Settling an item of a ticket that fits.
-use Rattle.std.proofs.Common.{◌≡◌, ◌≢◌, ◌⊎◌, ℕ, zero, suc, ◌+◌, ◌<◌, ◌≤◌, List, [], ◌∷◌, ◌++◌, length, map, set, refl, sym, ◌∙◌, ap, subst, inl, inr, arith, length-set}
-use Rattle.std.specs.Prelude.{Bool, true, false, Option, Some, None, slice_get, ◌↔◌, IsTrue}
+use Rattle.std.proofs.Common.{◌≡◌, ◌≢◌, ◌⊎◌, ℕ, zero, suc, ◌+◌, ◌<◌, ◌≤◌, List, [], ◌∷◌, ◌++◌, length, set, refl, sym, ◌∙◌, ap, subst, inl, inr, arith, length-set}
+use Rattle.std.specs.Prelude.{Bool, true, false, Option, Some, None, slice_get}
 use Rattle.std.specs.List.{Contains}
-use Rattle.std.proofs.lemmas.Bool.{false≢true, true≢false}
+use Rattle.std.proofs.lemmas.Bool.{false≢true}
 use Rattle.std.proofs.lemmas.Option.{same_Some}
 use Rattle.po_base.specs.declared.numbers.FileNo.{FileNo}
 use Rattle.po_base.specs.declared.numbers.FunNo.{FunNo}
 use Rattle.po_core.specs.Book.{Book}
-use Rattle.po_core.specs.Core.{AreApart, CoreState, HasMark, HasHand, IsHeld, IsInHand, IsUnsettled, IsAssumed, IsSettled, IsUntaken, Settles, Steps, Replays, IsLegal}
+use Rattle.po_core.specs.Core.{AreApart, CoreState, HasMark, IsHeld, IsInHand, IsUnsettled, IsSettled, IsUntaken, Settles, Replays, IsLegal}
 use Rattle.po_core.specs.Theorem.{IsOrderly}
 use Rattle.po_core.specs.declared.event.Event.{Event}
 use Rattle.po_core.specs.declared.event.Event.TheVariants.{Settle, Give}
@@ -17,7 +17,6 @@ use Rattle.po_core.specs.declared.event.Mark.TheVariants.{Untaken, Taken, Settle
 use Rattle.po_core.specs.declared.obl.Obl.{Obl}
 use Rattle.po_core.specs.declared.obl.Verdict.{Verdict}
 use Rattle.po_core.proofs.Lists.{Has, has, contains, contains_map, has_from_map}
-use Rattle.po_core.proofs.Members.{settled_taken, settled_untaken}
 use Rattle.po_core.proofs.Orderly.{same_hand}
 use Rattle.po_ledger.specs.Calls.{Does, CanSettle, SettlesItem, CanGive, IsOpenAt, IsItemAt}
 use Rattle.po_ledger.specs.Parts.{IsRemarked}
@@ -91,13 +90,13 @@ module _ {P N T : Type 0} (b : Book P N T) (s : CoreState P N) (order : IsOrderl
         by_worker = c.fits.by_worker;
         same_items = c.fits.same_items ∙ sym (items_kept t.hand k p false true at);
         same_settled = λ o x h. elim (written_or_there t.hand k p false true at apart o x (has _ (o, x) h)) [
-          inl y ↦ (λ w. (v, (e.marks o (Settled v)).1 (inl (refl, subst (λ (z : Obl P). HasMark s z Taken) (sym y.0) was, y.0))), λ w. y.1)
+          | inl y ↦ (λ w. (v, (e.marks o (Settled v)).1 (inl (refl, subst (λ (z : Obl P). HasMark s z Taken) (sym y.0) was, y.0))), λ w. y.1)
           | inr y ↦ (
-            let before = c.fits.same_settled o x (contains t.hand (o, x) y.0) in (
-              λ w. let d = before.0 w in (d.0, (e.marks o (Settled d.0)).1 (inr (d.1, λ z. y.1 z.1))),
-              λ w. elim ((e.marks o (Settled w.0)).0 w.1) [ inl z ↦ absurd (y.1 z.2) | inr z ↦ before.1 (w.0, z.0) ],
-            )
-          )
+              let before = c.fits.same_settled o x (contains t.hand (o, x) y.0) in (
+                λ w. let d = before.0 w in (d.0, (e.marks o (Settled d.0)).1 (inr (d.1, λ z. y.1 z.1))),
+                λ w. elim ((e.marks o (Settled w.0)).0 w.1) [ inl z ↦ absurd (y.1 z.2) | inr z ↦ before.1 (w.0, z.0) ],
+              )
+              )
         ];
       } in
       subst (λ (z : TicketView P T). Fits n z) (sym is) good

@@ -1,6 +1,6 @@
 -- A new ledger, and when all is done.
-use Rattle.std.proofs.Common.{◌≡◌, ◌≢◌, ◌⊎◌, ℕ, zero, suc, ◌+◌, ◌-◌, ◌<◌, ◌≤◌, List, [], ◌∷◌, ◌++◌, length, map, replicate, refl, sym, ◌∙◌, ap, subst, inl, inr, arith}
-use Rattle.std.specs.Prelude.{Option, Some, None, slice_get, ◌↔◌, IfSome, IfNone}
+use Rattle.std.proofs.Common.{◌≡◌, ℕ, zero, suc, ◌+◌, ◌<◌, ◌≤◌, List, [], ◌∷◌, length, map, replicate, refl, sym, ◌∙◌, ap, subst, inl, inr, arith}
+use Rattle.std.specs.Prelude.{Option, Some, None, slice_get, IfSome, IfNone}
 use Rattle.std.specs.List.{Contains}
 use Rattle.std.proofs.lemmas.Bool.{cases_eq}
 use Rattle.std.proofs.lemmas.List.{length-replicate}
@@ -9,7 +9,7 @@ use Rattle.po_base.specs.declared.numbers.FileNo.{FileNo}
 use Rattle.po_base.specs.declared.numbers.FunNo.{FunNo}
 use Rattle.po_base.specs.declared.numbers.NodeNo.{NodeNo}
 use Rattle.po_core.specs.Book.{Book, IsPrimary, file_of_obl}
-use Rattle.po_core.specs.Core.{AreApart, CoreState, HasMark, HasHand, IsHeld, IsQuiet, CanTake, MustWait, IsStart, Runs}
+use Rattle.po_core.specs.Core.{CoreState, HasMark, IsHeld, IsQuiet, CanTake, IsStart, Runs}
 use Rattle.po_core.specs.declared.event.Event.{Event}
 use Rattle.po_core.specs.declared.event.Hand.{Hand}
 use Rattle.po_core.specs.declared.event.Mark.{Mark}
@@ -21,7 +21,7 @@ use Rattle.po_core.proofs.Lists.{Has, has, contains, contains_map, has_from_map}
 use Rattle.po_core.proofs.Members.{taken_untaken}
 use Rattle.po_ledger.specs.Calls.{IsNew}
 use Rattle.po_ledger.specs.Parts.{AddsEach, HandAt, NoneTakeable, primaries_of, primaries_below}
-use Rattle.po_ledger.specs.View.{LedgerView, IsKept, AreTables}
+use Rattle.po_ledger.specs.View.{LedgerView, IsKept}
 
 module _ {P N T : Type 0} (b of_book : Book P N T) (same : of_book ≡ b) (s : CoreState P N) where
   pub can_take : (file : FileNo) → ((¬ HandAt s.hands file) × ((o : Obl P) × Contains s.marks (o, Untaken) × (file_of_obl of_book o ≡ file))) → CanTake b s file
@@ -62,23 +62,23 @@ module _ {P N T : Type 0} (b : Book P N T) where
   below_primary : (n : ℕ) (o : Obl P) → n ≤ b.functions → Contains (primaries_below b n) o → IsPrimary b o
   below_primary zero o l h = absurd (has [] o h)
   below_primary (suc n) o l h = elim (Contains-append_cases (primaries_below b n) (primaries_of b (record { 0 = n })) o h) [
-    inl k ↦ below_primary n o (omega arith) k
+    | inl k ↦ below_primary n o (omega arith) k
     | inr k ↦ primary_here (record { 0 = n }) o (omega arith) (has _ o k)
   ]
 
   primary_below : (n : ℕ) (o : Obl P) → o.fun.0 < n → IsPrimary b o → Contains (primaries_below b n) o
   primary_below zero o l p = absurd (omega arith)
   primary_below (suc n) o l p = elim (cases_eq o.fun.0 n) [
-    inl q ↦ (
-      let to : ℕ → FunNo = λ k. record { 0 = k } in
-      let make : FunNo → (NodeNo × ℕ) → Obl P = λ f x. record { fun = f; node = x.0; cause = Primary x.1 } in
-      let with : Cause P → Obl P = λ k. record { fun = o.fun; node = o.node; cause = k } in
-      let here : Contains (map (make o.fun) (b.primaries o.fun)) (make o.fun (o.node, p.0)) = contains_map (make o.fun) (b.primaries o.fun) (o.node, p.0) p.3 in
-      let is : make o.fun (o.node, p.0) ≡ o = ap with (sym p.2) in
-      let there : Contains (primaries_of b o.fun) o = subst (λ (z : Obl P). Contains (map (make o.fun) (b.primaries o.fun)) z) is here in
-      let same : o.fun ≡ to n = ap to q in
-      Contains-append_right (primaries_below b n) (primaries_of b (to n)) o (subst (λ (z : FunNo). Contains (primaries_of b z) o) same there)
-    )
+    | inl q ↦ (
+        let to : ℕ → FunNo = λ k. record { 0 = k } in
+        let make : FunNo → (NodeNo × ℕ) → Obl P = λ f x. record { fun = f; node = x.0; cause = Primary x.1 } in
+        let with : Cause P → Obl P = λ k. record { fun = o.fun; node = o.node; cause = k } in
+        let here : Contains (map (make o.fun) (b.primaries o.fun)) (make o.fun (o.node, p.0)) = contains_map (make o.fun) (b.primaries o.fun) (o.node, p.0) p.3 in
+        let is : make o.fun (o.node, p.0) ≡ o = ap with (sym p.2) in
+        let there : Contains (primaries_of b o.fun) o = subst (λ (z : Obl P). Contains (map (make o.fun) (b.primaries o.fun)) z) is here in
+        let same : o.fun ≡ to n = ap to q in
+        Contains-append_right (primaries_below b n) (primaries_of b (to n)) o (subst (λ (z : FunNo). Contains (primaries_of b z) o) same there)
+        )
     | inr ne ↦ Contains-append_left (primaries_below b n) (primaries_of b (record { 0 = n })) o (primary_below n o (let other : o.fun.0 ≡ n → ⊥ = ne in omega arith) p)
   ]
 

@@ -1,5 +1,5 @@
 -- Tables of functions.
-use Rattle.std.proofs.Common.{◌≡◌, ℕ, zero, suc, ◌<◌, List, [], ◌∷◌, ◌++◌, length, get_or, refl, sym, ◌∙◌, ap, subst, inl, inr, arith}
+use Rattle.std.proofs.Common.{◌≡◌, ℕ, ◌<◌, List, [], ◌∷◌, ◌++◌, length, get_or, refl, sym, ◌∙◌, ap, subst, inl, inr}
 use Rattle.std.specs.Prelude.{Option, Some, slice_get}
 use Rattle.std.specs.List.{Contains}
 use Rattle.std.proofs.lemmas.Option.{slice_get_read, slice_get_within, same_Some}
@@ -24,7 +24,7 @@ table_pushed {T} old new at f table is q = (table, ap (λ (z : List (FunNo × T)
 
 pub tables_pushed : {P N T : Type 0} (b : Book P N T) (old new : List (FunNo × T)) (f : FunNo) (table : T) → AreTables b old → b.table_of f ≡ Some table → new ≡ old ++ (f, table) ∷ [] → AreTables b new
 tables_pushed {T = T} b old new f table right made is g t h = elim (Contains-push_cases old (f, table) (g, t) (subst (λ (z : List (FunNo × T)). Contains z (g, t)) is h)) [
-  inl k ↦ right g t k
+  | inl k ↦ right g t k
   | inr q ↦ subst (λ (z : FunNo × T). b.table_of z.0 ≡ Some z.1) q made
 ]
 

@@ -1,26 +1,23 @@
 -- Taking a file.
-use Rattle.std.proofs.Common.{◌≡◌, ◌≢◌, ◌⊎◌, ℕ, ◌+◌, ◌<◌, ◌≤◌, List, [], ◌∷◌, ◌++◌, length, map, set, refl, sym, ◌∙◌, ap, subst, inl, inr, arith, length-set}
-use Rattle.std.specs.Prelude.{Bool, true, false, Option, Some, None, slice_get, ◌↔◌, IsTrue}
+use Rattle.std.proofs.Common.{◌≡◌, ℕ, ◌+◌, ◌<◌, ◌≤◌, List, [], ◌∷◌, ◌++◌, length, map, set, refl, sym, ◌∙◌, ap, subst, inl, inr, arith, length-set}
+use Rattle.std.specs.Prelude.{Bool, false, Some, slice_get}
 use Rattle.std.specs.List.{Contains}
 use Rattle.std.proofs.lemmas.Bool.{false≢true}
 use Rattle.std.proofs.lemmas.List.{length-map}
 use Rattle.po_base.specs.declared.numbers.FileNo.{FileNo}
 use Rattle.po_base.specs.declared.numbers.FunNo.{FunNo}
 use Rattle.po_core.specs.Book.{Book, IsBook, file_of_obl}
-use Rattle.po_core.specs.Core.{AreApart, CoreState, HasMark, IsHeld, IsSettled, IsUntaken, CanTake, Takes, Replays}
+use Rattle.po_core.specs.Core.{CoreState, HasMark, CanTake, Takes, Replays}
 use Rattle.po_core.specs.Theorem.{IsOrderly}
 use Rattle.po_core.specs.declared.event.Event.{Event}
 use Rattle.po_core.specs.declared.event.Event.TheVariants.{Take}
-use Rattle.po_core.specs.declared.event.Hand.{Hand}
-use Rattle.po_core.specs.declared.event.Mark.{Mark}
 use Rattle.po_core.specs.declared.event.Mark.TheVariants.{Untaken, Taken, Settled}
 use Rattle.po_core.specs.declared.obl.Obl.{Obl}
-use Rattle.po_core.specs.declared.obl.Verdict.{Verdict}
-use Rattle.po_core.proofs.Lists.{Has, has, contains, contains_map, has_from_map}
+use Rattle.po_core.proofs.Lists.{Has, has, contains}
 use Rattle.po_core.proofs.Members.{settled_taken}
 use Rattle.po_ledger.specs.Calls.{Does, HandsOut}
 use Rattle.po_ledger.specs.Parts.{IsRemarked, TakesFrom}
-use Rattle.po_ledger.specs.View.{LedgerView, TicketView, IsKept, IsTicket, AreTables, Fits, items_of}
+use Rattle.po_ledger.specs.View.{LedgerView, TicketView, IsKept, IsTicket, Fits, items_of}
 use Rattle.po_ledger.specs.declared.marks.Remark.TheVariants as r
 use Rattle.po_ledger.proofs.Kept.{does_seen, order_here, order_of, known_there, remarked_here, replays_after, take_takes, take_does, take_kept}
 
@@ -58,8 +55,8 @@ module _ {P N T : Type 0} (eq : P → P → Bool) (b of_book : Book P N T) (book
     pub new_ticket : (hand : List (Obl P × Bool)) (tables : List (FunNo × T)) → hand ≡ map (λ o. (o, false)) items → slice_get shelves file.0 ≡ Some tables → IsTicket b hand tables
     new_ticket hand tables is was = record {
       items_there = λ o x h.
-        let y = open_item items o x (has _ (o, x) (subst (λ (z : List (Obl P × Bool)). Contains z (o, x)) is h)) in
-        (order_here b of_book l shelves kept law).functions_there o (Untaken, ((from_here.all o).0 (contains items o y.0)).0);
+          let y = open_item items o x (has _ (o, x) (subst (λ (z : List (Obl P × Bool)). Contains z (o, x)) is h)) in
+          (order_here b of_book l shelves kept law).functions_there o (Untaken, ((from_here.all o).0 (contains items o y.0)).0);
       tables_right = kept.shelved file.0 tables was;
     }
 
@@ -96,9 +93,9 @@ module _ {P N T : Type 0} (eq : P → P → Bool) (b of_book : Book P N T) (book
             same_settled = λ o x h. (
               λ w. absurd (false≢true (sym (in_items o x h).1 ∙ w)),
               λ w.
-                let u = (from_here.all o).0 (contains items o (in_items o x h).0) in
-                let taken : HasMark m.state o Taken = (take_effect.marks o Taken).1 (inl (refl, u.0, u.1)) in
-                absurd (settled_taken w.0 (order_after.one_mark o (Settled w.0) Taken w.1 taken)),
+                  let u = (from_here.all o).0 (contains items o (in_items o x h).0) in
+                  let taken : HasMark m.state o Taken = (take_effect.marks o Taken).1 (inl (refl, u.0, u.1)) in
+                  absurd (settled_taken w.0 (order_after.one_mark o (Settled w.0) Taken w.1 taken)),
             );
           } in
           record {

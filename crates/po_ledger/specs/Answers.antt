@@ -3,7 +3,7 @@ use Rattle.std.specs.Prelude.{ℕ, true, false}
 use Rattle.po_core.specs.Book.{Book}
 use Rattle.po_core.specs.declared.event.Event.TheVariants.{Ask}
 use Rattle.po_ledger.specs.Calls.{Does, HandsOut}
-use Rattle.po_ledger.specs.View.{LedgerView, TicketView}
+use Rattle.po_ledger.specs.View.{LedgerView}
 use Rattle.po_ledger.specs.declared.next.Next.{Next}
 use Rattle.po_ledger.specs.declared.next.Next.TheVariants.{Ticket, Wait, Done}
 

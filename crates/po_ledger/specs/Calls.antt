@@ -1,11 +1,10 @@
 -- What the calls of a ledger do.
 use Rattle.std.specs.Prelude.{ℕ, ◌≡◌, ◌+◌, ◌≤◌, ◌<◌, List, [], ◌∷◌, ◌++◌, Bool, true, false, length, Some, slice_get, slice_set}
 use Rattle.std.specs.List.{Contains}
-use Rattle.po_base.specs.declared.numbers.FileNo.{FileNo}
 use Rattle.po_core.specs.Book.{Book}
 use Rattle.po_core.specs.Core.{CoreState, AreApart, IsHeld, IsUntaken, IsAssumed, IsQuiet, IsStart, Steps}
 use Rattle.po_core.specs.declared.event.Event.{Event}
-use Rattle.po_core.specs.declared.event.Event.TheVariants.{Take, Post, Settle, Give, PutBack, Ask}
+use Rattle.po_core.specs.declared.event.Event.TheVariants.{Take, Post, Settle}
 use Rattle.po_core.specs.declared.obl.Obl.{Obl}
 use Rattle.po_core.specs.declared.obl.Verdict.{Verdict}
 use Rattle.po_core.specs.declared.obl.Verdict.TheVariants.{Delegated}

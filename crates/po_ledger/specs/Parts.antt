@@ -1,5 +1,5 @@
 -- What the parts of a ledger's calls do to its lists.
-use Rattle.std.specs.Prelude.{ℕ, zero, suc, ◌≡◌, ◌+◌, ◌<◌, ◌⊎◌, ◌↔◌, List, [], ◌∷◌, ◌++◌, length, map, slice_get, slice_index_or, Option, Some}
+use Rattle.std.specs.Prelude.{ℕ, zero, suc, ◌≡◌, ◌<◌, ◌⊎◌, ◌↔◌, List, [], ◌∷◌, ◌++◌, length, map, slice_get, slice_index_or, Option, Some}
 use Rattle.std.specs.List.{Contains}
 use Rattle.po_base.specs.declared.numbers.FileNo.{FileNo}
 use Rattle.po_base.specs.declared.numbers.FunNo.{FunNo}
@@ -11,7 +11,6 @@ use Rattle.po_core.specs.declared.event.Mark.{Mark}
 use Rattle.po_core.specs.declared.event.Mark.TheVariants.{Untaken, Taken, Settled}
 use Rattle.po_core.specs.declared.obl.Cause.TheVariants.{Primary, Support}
 use Rattle.po_core.specs.declared.obl.Obl.{Obl}
-use Rattle.po_core.specs.declared.obl.Verdict.{Verdict}
 use Rattle.po_ledger.specs.declared.marks.Remark.{Remark}
 use Rattle.po_ledger.specs.declared.marks.Remark.TheVariants as r
 

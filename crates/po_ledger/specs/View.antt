@@ -1,5 +1,5 @@
 -- What contracts see of a ledger and of a ticket, and what is true of each ledger.
-use Rattle.std.specs.Prelude.{ℕ, ◌≡◌, ◌+◌, ◌-◌, ◌≤◌, ◌<◌, ◌↔◌, List, Bool, true, length, map, Option, Some, slice_get, IsTrue}
+use Rattle.std.specs.Prelude.{ℕ, ◌≡◌, ◌+◌, ◌-◌, ◌≤◌, ◌<◌, ◌↔◌, List, Bool, length, map, Option, Some, slice_get, IsTrue}
 use Rattle.std.specs.List.{Contains}
 use Rattle.po_base.specs.declared.numbers.FileNo.{FileNo}
 use Rattle.po_base.specs.declared.numbers.FunNo.{FunNo}

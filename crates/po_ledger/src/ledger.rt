@@ -9,7 +9,7 @@ ghost use Rattle.po_ledger.specs.Calls.{IsNew, Does, HandsOut, CanPost, PostsIte
 ghost use Rattle.po_ledger.specs.Answers.{Answers};
 ghost use Rattle.po_ledger.specs.View.{Fits, IsLedger};
 
-use crate::marks::{Marks, Remark, change, first_marks, mark_of};
+use crate::marks::{Marks, Remark, change, first_marks};
 use crate::naming::Naming;
 use crate::next::Next;
 use crate::parts::{
@@ -153,12 +153,7 @@ impl<'r, R: Rulebook, J: Naming<R::Pred, R::Rule, R::Table>> Ledger<'r, R, J> {
     }
 
     /// Takes a file that can be taken.
-    fn take_file(
-        &mut self,
-        alloc: Global,
-        worker: u8,
-        file: FileNo,
-    ) -> Result<Ticket<R, J>, Memory>
+    fn take_file(&mut self, alloc: Global, worker: u8, file: FileNo) -> Result<Ticket<R, J>, Memory>
         requires { CanTake J.book self.old.state file }
         ensures ok { IfOk result (HandsOut J.book worker self.old self.new) }
         ensures err { OnErr result (self.new ≡ self.old) }

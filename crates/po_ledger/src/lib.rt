@@ -1,4 +1,6 @@
-//! The ledger of an analysis: what is known, who holds what, and the journal of all that happened.
+//! The ledger of an analysis: which obligations are known and how far each has come, who holds which file, what
+//! is assumed, and the journal of all that happened. Workers take work from it by tickets, post assumptions,
+//! settle obligations, and give files back; each call is one legal event of the core and appends just it.
 #![tactic(auto)]
 
 mod ledger;

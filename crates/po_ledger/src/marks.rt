@@ -172,11 +172,7 @@ fn is_old<P: Copy, N: Copy>(remark: &Remark<P, N>, mark: Mark<P, N>) -> bool
 }
 
 /// Whether a remark means the obligation.
-fn is_meant<R: Rulebook>(
-    book: &R,
-    remark: &Remark<R::Pred, R::Rule>,
-    o: &Obl<R::Pred>,
-) -> bool
+fn is_meant<R: Rulebook>(book: &R, remark: &Remark<R::Pred, R::Rule>, o: &Obl<R::Pred>) -> bool
     requires { o.now.fun.0 < (R.meaning book.now).functions }
     ensures { IsTrue result ↔ IsMeant (R.meaning book.now) remark.now o.now }
 {

@@ -1,4 +1,3 @@
-use Rattle.std.proofs.Common.{◌≡◌, ap, subst, map, sym}
 use Rattle.std.proofs.lemmas.List.{take_all}
 use Rattle.po_ledger.proofs.Adds.{adds_none, adds_more}
 use Rattle.po_ledger.proofs.marks.add_primaries.Goals as goal

@@ -1,6 +1,5 @@
-use Rattle.std.proofs.Common.{◌≡◌, ◌<◌, length, refl, sym, ◌∙◌, ap, subst, arith, get_or}
+use Rattle.std.proofs.Common.{refl, ◌∙◌, arith, get_or}
 use Rattle.std.proofs.lemmas.List.Elements.{Contains-get_or}
-use Rattle.po_core.specs.declared.obl.Obl.{Obl}
 use Rattle.po_ledger.specs.Parts.{HasKey}
 use Rattle.po_ledger.proofs.Remarked.{remarked_more, remarked_all}
 use Rattle.po_ledger.proofs.marks.change_slice.Goals as goal

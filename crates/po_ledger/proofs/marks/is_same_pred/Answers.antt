@@ -1,4 +1,4 @@
-use Rattle.std.proofs.Common.{◌≡◌, sym, ◌∙◌}
+use Rattle.std.proofs.Common.{sym, ◌∙◌}
 use Rattle.po_ledger.proofs.marks.is_same_pred.Goals as goal
 
 pub returns : goal.returns

@@ -1,6 +1,5 @@
-use Rattle.std.proofs.Common.{◌≡◌, ℕ, sym, ◌∙◌, ap, subst, take_all}
+use Rattle.std.proofs.Common.{take_all}
 use Rattle.std.proofs.lemmas.Bool.{both_ways}
-use Rattle.po_ledger.specs.Parts.{HasKey}
 use Rattle.po_ledger.proofs.Lists.{key_more}
 use Rattle.po_ledger.proofs.marks.mark_of.Goals as goal
 

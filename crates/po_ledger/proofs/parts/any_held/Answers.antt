@@ -1,6 +1,6 @@
-use Rattle.std.proofs.Common.{◌≡◌, ◌<◌, length, arith, refl, Some}
+use Rattle.std.proofs.Common.{arith, refl, Some}
 use Rattle.std.proofs.lemmas.Bool.{both_ways, false≢true}
-use Rattle.std.proofs.lemmas.Option.{slice_get_read, slice_get_within}
+use Rattle.std.proofs.lemmas.Option.{slice_get_within}
 use Rattle.po_ledger.proofs.Lists.{no_hand_more, hand_read}
 use Rattle.po_ledger.proofs.parts.any_held.Goals as goal
 

@@ -1,4 +1,4 @@
-use Rattle.std.proofs.Common.{◌≡◌, replicate, None, []}
+use Rattle.std.proofs.Common.{◌≡◌, replicate, []}
 use Rattle.po_ledger.proofs.parts.empty_shelves.Given as goal
 
 abbrev pub invariant-loop-made : goal.invariant-loop-made

@@ -1,4 +1,4 @@
-use Rattle.std.proofs.Common.{◌≡◌, [], ◌∷◌, ◌∙◌, sym, inl, inr}
+use Rattle.std.proofs.Common.{[], ◌∙◌, sym, inl, inr}
 use Rattle.std.proofs.lemmas.List.{append-nil}
 use Rattle.po_ledger.proofs.parts.extend.Goals as goal
 

@@ -1,4 +1,4 @@
-use Rattle.std.proofs.Common.{◌≡◌, replicate, None, []}
+use Rattle.std.proofs.Common.{◌≡◌, replicate, None}
 use Rattle.po_ledger.proofs.parts.no_hands.Given as goal
 
 abbrev pub invariant-loop-made : goal.invariant-loop-made

@@ -1,4 +1,4 @@
-use Rattle.std.proofs.Common.{sym, take}
+use Rattle.std.proofs.Common.{take}
 use Rattle.std.proofs.lemmas.List.{take_all}
 use Rattle.po_core.proofs.Lists.{has}
 use Rattle.po_core.specs.declared.event.Mark.TheVariants.{Untaken}

@@ -1,4 +1,3 @@
-use Rattle.std.proofs.Common.{sym, take}
 use Rattle.std.proofs.lemmas.List.{take_all}
 use Rattle.po_ledger.proofs.Lists.{takes_none, takes_more, read_in}
 use Rattle.po_ledger.proofs.parts.untaken_of.Goals as goal

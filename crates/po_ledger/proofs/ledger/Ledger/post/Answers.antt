@@ -1,4 +1,4 @@
-use Rattle.std.proofs.Common.{◌∙◌, ◌++◌, ◌∷◌, [], ap, refl, sym, arith, length}
+use Rattle.std.proofs.Common.{◌∙◌, ◌++◌, ◌∷◌, [], ap, refl, arith, length}
 use Rattle.po_core.specs.declared.event.Event.TheVariants.{Post}
 use Rattle.po_ledger.proofs.Posted.{post_there, post_keeps, posts_item, cut_back, same_view, kept_view}
 use Rattle.po_ledger.proofs.ledger.Ledger.post.Goals as goal

@@ -1,4 +1,4 @@
-use Rattle.std.proofs.Common.{◌≡◌, ◌+◌, ◌-◌, ◌≤◌, ◌∙◌, ◌++◌, ◌∷◌, [], ap, refl, arith, map, length, false}
+use Rattle.std.proofs.Common.{◌∙◌, ◌++◌, ◌∷◌, [], ap, refl, arith, map, false}
 use Rattle.po_core.specs.declared.event.Event.TheVariants.{Take}
 use Rattle.po_ledger.proofs.Kept.{known_there}
 use Rattle.po_ledger.proofs.Taken.{take_place, take_shelf, new_ticket, take_keeps, hands_out}

@@ -1,4 +1,4 @@
-use Rattle.std.proofs.Common.{◌≡◌, ◌<◌, length, ap, refl, subst, sym, get_or}
+use Rattle.std.proofs.Common.{◌<◌, length, ap, refl, subst, sym, get_or}
 use Rattle.po_ledger.specs.View.{TicketView}
 use Rattle.po_ledger.proofs.Items.{item_got, ticket_kept, ticket_with}
 use Rattle.po_ledger.proofs.ticket.Ticket.mark_settled.Goals as goal
