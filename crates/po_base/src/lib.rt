@@ -11,6 +11,8 @@ mod operators;
 mod ord_list;
 mod roomy;
 mod spot;
+#[cfg(test)]
+mod tests;
 mod text;
 mod token;
 

@@ -1,11 +1,14 @@
-ghost use Rattle.std.specs.Prelude.{◌≡◌, [], not, IfOk, OnOk, OnErr};
+ghost use Rattle.std.specs.Prelude.{◌≡◌, ◌^◌, ◌<◌, [], length, not, IfOk, OnOk, OnErr};
 ghost use Rattle.std.specs.List.{list_any};
+ghost use Rattle.std.specs.List.Sorted.{IsStrictlySortedBy};
+ghost use Rattle.std.specs.Map.Iter.{ShowsInOrder, deref};
 ghost use Rattle.std.specs.BTreeMap.{is_at};
 ghost use Rattle.std.specs.BTreeSet as set;
 
 use crate::memory::Memory;
 use std::alloc::Global;
 use std::collections::BTreeSet;
+use std::collections::btree_set::Iter;
 use std::marker::Model;
 
 /// Items without doubles in the order of their type, which contracts see as the ascending list of them.
@@ -42,6 +45,7 @@ impl<T: Ord + Drop> OrdList<T> {
         ensures ok { OnOk result (self.new ≡ set.insert_key T.cmp self.old x) }
         ensures added { IfOk result (λ added. added ≡ not (list_any (is_at (T.cmp x)) self.old)) }
         ensures err { OnErr result (self.new ≡ self.old) }
+        ensures ascending { IsStrictlySortedBy T.cmp self.new }
     {
         match self.items.insert(x) {
             Ok(added) => Ok(added),
@@ -54,5 +58,23 @@ impl<T: Ord + Drop> OrdList<T> {
         ensures { result ≡ list_any (is_at (T.cmp x.now)) self.now }
     {
         self.items.contains(x)
+    }
+
+    /// How many items there are.
+    pub fn len(&self) -> usize
+        ensures count { result ≡ length self.now }
+        ensures ascending { IsStrictlySortedBy T.cmp self.now }
+    {
+        self.items.len()
+    }
+
+    /// The items one after the other, the least first.
+    pub fn iter(&self) -> Iter<'_, T>
+        ensures rest { result ≡ self.now }
+        ensures runs { ShowsInOrder (deref {X = T}) }
+        ensures ascending { IsStrictlySortedBy T.cmp self.now }
+        ensures fits { length self.now < 2 ^ 63 }
+    {
+        self.items.iter()
     }
 }

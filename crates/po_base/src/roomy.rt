@@ -1,4 +1,4 @@
-ghost use Rattle.std.specs.Prelude.{◌≡◌, [], ◌∷◌, ◌++◌, ◌<◌, ◌≤◌, ◌+◌, ◌-◌, length, IfOk, IsOk, OnOk, OnErr};
+ghost use Rattle.std.specs.Prelude.{◌≡◌, [], ◌∷◌, ◌++◌, ◌<◌, ◌≤◌, ◌+◌, ◌-◌, length, MatchOption, IfOk, IsOk, OnOk, OnErr};
 
 use crate::list::List;
 use crate::memory::Memory;
@@ -34,19 +34,52 @@ impl<T> Roomy<T> {
         }
     }
 
-    /// Makes room for `more` further items at once. The items are the same, also after `Memory`.
+    /// Makes room for `more` further items at once. The items are the same, also after `Memory`, and no
+    /// room is lost. Where that much room was there, it succeeds.
     pub fn reserve(&mut self, more: usize) -> Result<(), Memory>
         ensures items { self.new.items ≡ self.old.items }
         ensures room { OnOk result (more ≤ self.new.spare) }
+        ensures kept { self.old.spare ≤ self.new.spare }
+        ensures succeeds { more ≤ self.old.spare → IsOk result }
     {
         self.items.reserve(more)?;
         Ok(())
     }
+
+    /// Takes the last item away, where there is one, in constant time. Its room is free again.
+    pub fn pop(&mut self) -> Option<T>
+        ensures item { MatchOption result ((self.old.items ≡ []) × (self.new.items ≡ [])) (λ last. self.old.items ≡ self.new.items ++ last ∷ []) }
+        ensures room { MatchOption result (self.new.spare ≡ self.old.spare) (λ _. self.new.spare ≡ self.old.spare + 1) }
+    {
+        self.items.pop()
+    }
+
+    /// The items as a slice.
+    pub fn as_slice(&self) -> &[T]
+        ensures { result.now ≡ self.now.items }
+    {
+        self.items.as_slice()
+    }
+
+    /// How many items there are.
+    pub fn len(&self) -> usize
+        ensures { result ≡ length self.now.items }
+    {
+        self.items.len()
+    }
+
+    /// The list of the items, without a copy.
+    pub fn into_list(self) -> List<T>
+        ensures { result ≡ self.items }
+    {
+        let Roomy { items } = self;
+        List::from_vec(items)
+    }
 }
 
 impl<T: Drop> Roomy<T> {
-    /// Puts an item at the end. It answers `Memory` only where no room was left; then the items are the
-    /// same and the item is dropped.
+    /// Puts an item at the end, in constant time on the average of many. It answers `Memory` only where no
+    /// room was left; then the items are the same and the item is dropped.
     pub fn push(&mut self, item: T) -> Result<(), Memory>
         ensures ok { OnOk result (self.new.items ≡ self.old.items ++ item ∷ []) }
         ensures err { OnErr result (self.new.items ≡ self.old.items) }

@@ -1,0 +1,11 @@
+mod Completing
+mod Corners
+mod Each
+mod Lowers
+mod Never
+mod Outcomes
+mod Pairs
+mod Reached
+mod Sizes
+mod Small
+mod Soundness

@@ -1,0 +1,13 @@
+pub mod Lowering
+pub mod Predicates
+pub mod Obligations
+pub mod Meaning
+pub mod Sound
+pub mod ReportText
+pub mod Command
+pub mod Outcome
+pub mod Exit
+pub mod Ranges
+pub mod Corners
+pub mod Rulings
+pub mod Lowered

@@ -1,0 +1,12 @@
+//! The lowered form of C that cproof analyses: functions as graphs of nodes over registers.
+#![tactic(auto)]
+
+mod graph;
+mod instr;
+mod int_type;
+mod project;
+
+pub use graph::{Graph, Node, Reg, Slot};
+pub use instr::{Instr, Ty};
+pub use int_type::IntType;
+pub use project::{CTypeText, Function, Project};

@@ -1,0 +1,24 @@
+-- The height of each kind of expression.
+use Rattle.std.proofs.Common.{◌≡◌, ℕ, ◌+◌, ap, sym, ◌∙◌}
+use Rattle.std.specs.Prelude.{max}
+use Rattle.po_base.specs.declared.operators.Op.{Op}
+use Rattle.po_straight.specs.declared.expression.Expression.{Expression, fold-roll-Expression}
+use Rattle.po_straight.specs.declared.expression.Expression.TheVariants as e
+use Rattle.po_straight.specs.declared.expression.Expression.TheOpen.{Expression-F}
+use Rattle.po_straight.specs.Expressions.{height, path_of}
+
+pub height-Parameter : (n : ℕ) → height (e.Parameter n) ≡ 1
+unfolding height
+height-Parameter n = ap height (sym (e.rolls-Parameter n)) ∙ fold-roll-Expression _ path_of (Expression-F.Parameter n)
+
+pub height-Constant : (value : ℕ) → height (e.Constant value) ≡ 1
+unfolding height
+height-Constant value = ap height (sym (e.rolls-Constant value)) ∙ fold-roll-Expression _ path_of (Expression-F.Constant value)
+
+pub height-Paren : (x : Expression) → height (e.Paren x) ≡ height x + 1
+unfolding height
+height-Paren x = ap height (sym (e.rolls-Paren x)) ∙ fold-roll-Expression _ path_of (Expression-F.Paren x)
+
+pub height-Binary : (o : Op) (line : ℕ) (x y : Expression) → height (e.Binary o line x y) ≡ max (height x) (height y) + 1
+unfolding height
+height-Binary o line x y = ap height (sym (e.rolls-Binary o line x y)) ∙ fold-roll-Expression _ path_of (Expression-F.Binary o line x y)

@@ -1,0 +1,25 @@
+mod Bytes
+mod Numerals
+mod Among
+mod Splits
+mod Shapes
+mod OneSign
+mod Written
+mod Nowhere
+mod Following
+mod Fronts
+mod Placing
+pub mod Heights
+pub mod Operators
+pub mod Few
+pub mod Alike
+pub mod Sound
+pub mod Complete
+pub mod Single
+pub mod Rules
+mod Listings
+mod Headers
+mod Bodies
+mod WholeBodies
+mod Beginnings
+mod Sequences

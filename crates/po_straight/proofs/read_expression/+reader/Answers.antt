@@ -1,0 +1,106 @@
+use Rattle.std.proofs.Common.{◌+◌, drop, arith, sym, ap, refl, drop_of_length-le}
+use Rattle.po_straight.specs.declared.expression.Expression.TheVariants as e
+use Rattle.po_straight.specs.Expressions.{height}
+use Rattle.po_straight.specs.Reading.{Operand, parameter, constant, stop}
+use Rattle.po_straight.proofs.Heights.{height-Parameter, height-Constant, height-Paren, height-Binary}
+use Rattle.po_straight.proofs.Rules.{at_place, low_level, starts, steps, too_high, no_right, no_operand, none_at_end, none_flat, none_named, none_begun, none_closed, found_closed, none_unclosed, is_closed}
+use Rattle.po_straight.proofs.read_expression.+reader.Goals as goal
+use Rattle.po_straight.proofs.read_expression.+reader.Goals.{operand-then-depth-eq0-via-then-depth-eq0, operand-then-depth-eq0-via-else-depth-eq0+then-at-lexemes}
+
+pub closed-returns-then-not-closes : goal.closed-returns-then-not-closes
+closed-returns-then-not-closes t c =
+    let f = rw c.in-Some.is at c.in_ok-inner.ensures in
+    λ x us w g. none_unclosed f.0 (λ b. let q = c.if-not-closes.ensures.1 b in cc) w
+
+pub closed-returns : goal.closed-returns
+closed-returns t c =
+    let f = rw c.in-Some.is at c.in_ok-inner.ensures in
+    let p = is_closed c.args.at c.in-Some.inner.end c.args.lexemes.now f.0 (c.if-not-closes.ensures.0 refl) in
+    (p.0, f.1, f.2, omega (arith, f.3), omega (arith, p.1))
+
+pub expression-returns-in_default : goal.expression-returns-in_default
+expression-returns-in_default t c = no_operand c.args.level c.args.depth (rw c.in_default.is at c.in_ok-found.ensures)
+
+pub expression-loop-operator-init : goal.expression-loop-operator-init
+expression-loop-operator-init t c =
+    let f = rw c.in-Some.is at c.in_ok-found.ensures in
+    record { leads = starts c.args.level f.0; own = omega arith; high = f.1; shallow = f.2; after = f.3; within = f.4 }
+
+pub expression-returns-then-found-depth : goal.expression-returns-then-found-depth
+expression-returns-then-found-depth t c =
+    let i = c.loop-operator.invariant in
+    too_high c.in-Some-operator_at.operator c.loop-operator.found.end c.args.lexemes.now i.leads c.in-Some-operator_at.ensures.value c.args.depth (omega (arith, i.high, c.if-found-depth.true))
+
+pub expression-returns-in_default-2 : goal.expression-returns-in_default-2
+expression-returns-in_default-2 t c =
+    let i = c.loop-operator.invariant in
+    no_right c.in-Some-operator_at.operator c.loop-operator.found.end c.args.lexemes.now i.leads c.in-Some-operator_at.ensures.value c.args.depth (rw c.in_default-2.is at c.in_ok-right.ensures)
+
+pub expression-loop-operator-preserved : goal.expression-loop-operator-preserved
+expression-loop-operator-preserved t c =
+    let i = c.loop-operator.invariant in
+    let f = rw c.in-Some-2.is at c.in_ok-right.ensures in
+    let j = c.in_ok-found-2.ensures in
+    let s = steps c.in-Some-operator_at.operator c.loop-operator.found.end c.args.lexemes.now i.leads c.in-Some-operator_at.ensures.value _ _ f.0 in
+    let h = low_level c.args.level c.loop-operator.own c.in-Some-operator_at.operator c.loop-operator.found.end c.args.lexemes.now c.in-Some-operator_at.ensures.value in
+    let q = height-Binary c.in-Some-operator_at.operator.op c.in-Some-operator_at.operator.line c.loop-operator.found.value c.in-Some-2.right.value in
+    record {
+      leads = rw (j.0, j.2) s;
+      own = omega (arith, h);
+      high = omega (arith, j.1, i.high, f.1, q, ap height j.0);
+      shallow = omega (arith, j.1, f.2, i.shallow, c.if-found-depth.false);
+      after = omega (arith, j.2, f.3, i.after);
+      within = rw j.2 f.4;
+    }
+
+pub expression-returns : goal.expression-returns
+expression-returns t c =
+    let i = c.loop-operator.invariant in
+    (i.leads.forth _ _ (stop _ _ _ _ c.in_default-operator_at.ensures.value), i.high, i.shallow, i.after, i.within)
+
+pub operand-returns-then-depth-eq0 : goal.operand-returns-then-depth-eq0
+operand-returns-then-depth-eq0 t c = λ x us w h.
+    elim c.then-depth-eq0.branch [
+      | operand-then-depth-eq0-via-then-depth-eq0 v ↦ none_flat w (omega (arith, h, v.if-depth-eq0.true))
+      | operand-then-depth-eq0-via-else-depth-eq0+then-at-lexemes v ↦ none_at_end w (drop_of_length-le c.args.lexemes.now (omega (arith, v.if-at-lexemes.true)))
+    ]
+
+pub operand-returns-in-Some : goal.operand-returns-in-Some
+operand-returns-in-Some t c =
+    let l = c.leaf.ensures in
+    let here = at_place c.args.at c.args.lexemes.now c.index-lexemes-at.result (omega arith) in
+    let w : Operand c.args.parameters.now (drop c.args.at c.args.lexemes.now) (e.Parameter c.in-Some.n) (drop (c.args.at + 1) c.args.lexemes.now) =
+    rw here (parameter c.in-Some.n _ _ _ c.in-Name.is c.in-Some.ensures) in
+    (rw (l.0, l.2) w, rw (l.0, l.1) (sym (height-Parameter c.in-Some.n)), omega (arith, l.1), omega (arith, l.2), omega (arith, l.2))
+
+pub operand-returns-in-None : goal.operand-returns-in-None
+operand-returns-in-None t c =
+    let here = at_place c.args.at c.args.lexemes.now c.index-lexemes-at.result (omega arith) in
+    λ x us w h. none_named _ _ _ c.in-Name.is c.in-None.ensures here w
+
+pub operand-returns-in-Constant : goal.operand-returns-in-Constant
+operand-returns-in-Constant t c =
+    let l = c.leaf-in-Constant.ensures in
+    let here = at_place c.args.at c.args.lexemes.now c.index-lexemes-at.result (omega arith) in
+    let w : Operand c.args.parameters.now (drop c.args.at c.args.lexemes.now) (e.Constant c.in-Constant.value) (drop (c.args.at + 1) c.args.lexemes.now) =
+    rw here (constant c.in-Constant.value _ _ c.in-Constant.is) in
+    (rw (l.0, l.2) w, rw (l.0, l.1) (sym (height-Constant c.in-Constant.value)), omega (arith, l.1), omega (arith, l.2), omega (arith, l.2))
+
+pub operand-returns-in_ok-enclose-in-Some-2 : goal.operand-returns-in_ok-enclose-in-Some-2
+operand-returns-in_ok-enclose-in-Some-2 t c =
+    let f = rw c.in-Some-2.is at c.in_ok-inner-in-Open.ensures in
+    let l = c.in_ok-enclose-in-Some-2.ensures in
+    let here = at_place c.args.at c.args.lexemes.now c.index-lexemes-at.result (omega arith) in
+    let w = found_closed _ _ c.in-Open.is here f.0 in
+    let q = height-Paren c.in-Some-2.inner.value in
+    (rw (l.0, l.2) w, omega (arith, ap height l.0, l.1, f.1, q), omega (arith, l.1, f.2), omega (arith, l.2, f.3), rw l.2 f.4)
+
+pub operand-returns-in-None-2 : goal.operand-returns-in-None-2
+operand-returns-in-None-2 t c =
+    let here = at_place c.args.at c.args.lexemes.now c.index-lexemes-at.result (omega arith) in
+    λ x us w h. none_closed c.args.depth _ _ c.in-Open.is (rw c.in-None-2.is at c.in_ok-inner-in-Open.ensures) here w h
+
+pub operand-returns-in_default : goal.operand-returns-in_default
+operand-returns-in_default t c =
+    let here = at_place c.args.at c.args.lexemes.now c.index-lexemes-at.result (omega arith) in
+    λ x us w h. none_begun _ _ c.in_default.not-Name c.in_default.not-Constant c.in_default.not-Open here w

@@ -1,0 +1,9 @@
+pub mod Spelling
+pub mod Distinct
+pub mod Expressions
+pub mod Definitions
+pub mod Lexing
+pub mod Named
+pub mod Reading
+pub mod Places
+pub mod Outline

@@ -1,0 +1,8 @@
+-- Names that stand in a list, with the way from a name to its place.
+use Rattle.std.specs.Prelude.{ℕ, ◌≡◌, List, Option, Some, MatchOption, Contains, slice_get}
+use Rattle.po_straight.specs.Distinct.{AllDiffer}
+
+-- `place` gives each name its place in the list, and no place to what isn't there; no name stands twice
+pub record ArePlaced (names : List (List ℕ)) (place : List ℕ → Option ℕ) : Type 0 where
+  pub differ : AllDiffer names
+  pub placed : (name : List ℕ) → MatchOption (place name) (Contains names name → ⊥) (λ n. slice_get names n ≡ Some name)

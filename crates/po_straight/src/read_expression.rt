@@ -1,0 +1,358 @@
+ghost use Rattle.std.specs.Prelude.{ℕ, ◌≡◌, ◌≤◌, ◌<◌, ◌+◌, ◌^◌, ◌↔◌, max, IsTrue, length, drop, IfOk, IfSome, IfNone, MatchOption};
+ghost use Rattle.po_straight.specs.declared.expression.Expression.{Expression as Tree};
+ghost use Rattle.po_straight.specs.declared.expression.Expression.TheVariants as e;
+ghost use Rattle.po_straight.specs.Expressions.{IsExpression, IsOperator};
+ghost use Rattle.po_straight.specs.Definitions.{operators};
+ghost use Rattle.po_straight.specs.Reading.{Reads, Operand, GoesOn};
+ghost use Rattle.po_straight.specs.Places.{BeginsWithClose, GoesOnBy, IsFound, Closed};
+
+use crate::expression::Expression;
+use crate::lexeme::{Lexeme, Sign};
+use crate::names::Parameters;
+use po_base::{Boxed, Memory, Op};
+use std::alloc::Global;
+
+/// The most expressions on a path from the root of a tree to a leaf.
+const MOST_NESTED: u32 = 256;
+
+/// The level of operands, above those of the operators.
+const OPERAND: u8 = 2;
+
+/// An expression that was read.
+#[derive(Drop)]
+struct Found {
+    value: Expression,
+    /// The most expressions on a path from the root to a leaf.
+    height: u32,
+    /// The place behind it.
+    end: usize,
+}
+
+/// A binary operator where it stands.
+#[derive(Clone, Copy)]
+struct Operator {
+    op: Op,
+    /// 0 for sums, 1 for products.
+    level: u8,
+    line: u32,
+}
+
+/// Whether a closing parenthesis stands at a place.
+fn closes(lexemes: &[Lexeme], at: usize) -> bool
+    ensures { IsTrue result ↔ BeginsWithClose (drop at lexemes.now) }
+{
+    match lexemes.get(at) {
+        Some(lexeme) => matches!(lexeme.sign, Sign::Close),
+        None => false,
+    }
+}
+
+/// The operator of a sign, with its level.
+fn operator_of(sign: &Sign) -> Option<(Op, u8)>
+    ensures { MatchOption result ((o : _) (k : ℕ) → IsOperator o sign.now k → ⊥) (λ p. IsOperator p.0 sign.now p.1) }
+{
+    match sign {
+        Sign::Plus => Some((Op::Add, 0)),
+        Sign::Minus => Some((Op::Sub, 0)),
+        Sign::Star => Some((Op::Mul, 1)),
+        Sign::Slash => Some((Op::Div, 1)),
+        Sign::Percent => Some((Op::Rem, 1)),
+        _ => None,
+    }
+}
+
+/// The operator at a place, where there is one of a level from `low` to `high`.
+fn operator_at(lexemes: &[Lexeme], at: usize, low: u8, high: u8) -> Option<Operator>
+    ensures within { IfSome result (λ _. at < length lexemes.now) }
+    ensures value { MatchOption result (GoesOn low high (drop at lexemes.now) → ⊥) (λ operator. GoesOnBy low high operator (drop at lexemes.now)) }
+{
+    if at >= lexemes.len() {
+        return None;
+    }
+    let lexeme = &lexemes[at];
+    let (op, level) = operator_of(&lexeme.sign)?;
+    if level < low || high < level {
+        return None;
+    }
+    Some(Operator {
+        op,
+        level,
+        line: lexeme.line,
+    })
+}
+
+/// The operand of one sign at a place.
+fn leaf(value: Expression, at: usize) -> Found
+    requires { at < 2 ^ 63 }
+    ensures { (result.value ≡ value) × (result.height ≡ 1) × (result.end ≡ at + 1) }
+{
+    Found {
+        value,
+        height: 1,
+        end: at + 1,
+    }
+}
+
+/// An expression in parentheses.
+fn enclose(alloc: Global, inner: Found) -> Result<Found, Memory>
+    requires { inner.height < 2 ^ 31 }
+    ensures { IfOk result (λ found. (found.value ≡ e.Paren inner.value) × (found.height ≡ inner.height + 1) × (found.end ≡ inner.end)) }
+{
+    Ok(Found {
+        value: Expression::Paren(Boxed::new(alloc, inner.value)?),
+        height: inner.height + 1,
+        end: inner.end,
+    })
+}
+
+/// An operand, an operator and the operand on its right, as one expression.
+fn join(alloc: Global, left: Found, operator: Operator, right: Found) -> Result<Found, Memory>
+    requires { left.height + right.height < 2 ^ 31 }
+    ensures { IfOk result (λ found. (found.value ≡ e.Binary operator.op operator.line left.value right.value) × (found.height ≡ max left.height right.height + 1) × (found.end ≡ right.end)) }
+{
+    let height = left.height.max(right.height) + 1;
+    let left = Boxed::new(alloc, left.value)?;
+    let end = right.end;
+    let right = Boxed::new(alloc, right.value)?;
+    Ok(Found {
+        value: Expression::Binary(operator.op, operator.line, left, right),
+        height,
+        end,
+    })
+}
+
+/// The expression of level `level` or a higher one that stands at a place, where there is one of a height of
+/// at most `depth`: its first operand, and the operators that go on with it.
+#[cycle(reader)]
+fn expression(
+    alloc: Global,
+    lexemes: &[Lexeme],
+    parameters: &Parameters,
+    at: usize,
+    level: u8,
+    depth: u32,
+) -> Result<Option<Found>, Memory>
+    requires shallow { depth < 2 ^ 16 }
+    ensures { IfOk result (λ found. IsFound (Reads parameters.now level) depth at lexemes.now found) }
+{
+    let Some(mut found) = operand(alloc, lexemes, parameters, at, depth)? else {
+        return Ok(None);
+    };
+    let mut own = OPERAND;
+    while let Some(operator) = operator_at(lexemes, found.end, level, own) {
+        if found.height >= depth {
+            return Ok(None);
+        }
+        let next = found.end + 1;
+        let Some(right) = expression(
+            alloc,
+            lexemes,
+            parameters,
+            next,
+            operator.level + 1,
+            depth - 1,
+        )?
+        else {
+            return Ok(None);
+        };
+        found = join(alloc, found, operator, right)?;
+        own = operator.level;
+    }
+    Ok(Some(found))
+}
+
+/// The operand that stands at a place, where there is one of a height of at most `depth`.
+#[cycle(reader)]
+fn operand(
+    alloc: Global,
+    lexemes: &[Lexeme],
+    parameters: &Parameters,
+    at: usize,
+    depth: u32,
+) -> Result<Option<Found>, Memory>
+    requires shallow { depth < 2 ^ 16 }
+    ensures { IfOk result (λ found. IsFound (Operand parameters.now) depth at lexemes.now found) }
+{
+    if depth == 0 || at >= lexemes.len() {
+        return Ok(None);
+    }
+    match &lexemes[at].sign {
+        Sign::Name(name) => match parameters.place(name) {
+            Some(n) => Ok(Some(leaf(Expression::Parameter(n), at))),
+            None => Ok(None),
+        },
+        Sign::Constant(value) => Ok(Some(leaf(Expression::Constant(*value), at))),
+        Sign::Open => match closed(alloc, lexemes, parameters, at + 1, depth - 1)? {
+            Some(inner) => Ok(Some(enclose(alloc, inner)?)),
+            None => Ok(None),
+        },
+        _ => Ok(None),
+    }
+}
+
+/// The expression that stands at a place with a closing parenthesis behind it, where there is one of a height
+/// of at most `depth`. It ends behind the parenthesis.
+#[cycle(reader)]
+fn closed(
+    alloc: Global,
+    lexemes: &[Lexeme],
+    parameters: &Parameters,
+    at: usize,
+    depth: u32,
+) -> Result<Option<Found>, Memory>
+    requires shallow { depth < 2 ^ 16 }
+    ensures { IfOk result (λ found. IsFound (Closed parameters.now) depth at lexemes.now found) }
+{
+    let Some(inner) = expression(alloc, lexemes, parameters, at, 0, depth)? else {
+        return Ok(None);
+    };
+    if !closes(lexemes, inner.end) {
+        return Ok(None);
+    }
+    Ok(Some(Found {
+        value: inner.value,
+        height: inner.height,
+        end: inner.end + 1,
+    }))
+}
+
+/// The expression that the signs are, where they are one: a whole expression over these parameters, on none of
+/// whose paths from the root to a leaf stand more than 256 expressions. There is one at most.
+///
+/// Time is linear in the signs, apart from the search for each name among the parameters. The stack is that of
+/// 256 nested expressions at most, however many parentheses there are.
+pub(crate) fn read_expression(
+    alloc: Global,
+    lexemes: &[Lexeme],
+    parameters: &Parameters,
+) -> Result<Option<Expression>, Memory>
+    ensures found { IfOk result (λ found. IfSome found (λ x. IsExpression parameters.now x lexemes.now)) }
+    ensures few { IfOk result (λ found. IfSome found (λ x. operators x < length lexemes.now)) }
+    ensures none { IfOk result (λ found. IfNone found ((x : Tree) → IsExpression parameters.now x lexemes.now → ⊥)) }
+{
+    let Some(found) = expression(alloc, lexemes, parameters, 0, 0, MOST_NESTED)? else {
+        return Ok(None);
+    };
+    if found.end != lexemes.len() {
+        return Ok(None);
+    }
+    Ok(Some(found.value))
+}
+
+#[cfg(test)]
+mod tests {
+    use super::*;
+    use po_base::{List, Text};
+
+    /// The signs that these bytes stand for, a letter for a name and a digit for a constant. The line of each
+    /// is its place, counted from 1.
+    fn signs(alloc: Global, bytes: &[u8]) -> Result<List<Lexeme>, Memory> {
+        let mut lexemes = List::new(alloc);
+        let mut line = 0;
+        for byte in bytes {
+            line = u32::wrapping_add(line, 1);
+            let sign = match *byte {
+                b'+' => Sign::Plus,
+                b'-' => Sign::Minus,
+                b'*' => Sign::Star,
+                b'/' => Sign::Slash,
+                b'%' => Sign::Percent,
+                b'(' => Sign::Open,
+                b')' => Sign::Close,
+                b',' => Sign::Comma,
+                b'0'..=b'9' => Sign::Constant(u32::from(*byte - b'0')),
+                _ => Sign::Name(Text::new(alloc, &[*byte])?),
+            };
+            lexemes.push(Lexeme { sign, line })?;
+        }
+        Ok(lexemes)
+    }
+
+    /// The line of the outermost operator; 0 for parentheses; 100 and more for operands.
+    fn top(value: &Expression) -> u32 {
+        match value {
+            Expression::Parameter(n) => u32::wrapping_add(100, *n),
+            Expression::Constant(n) => u32::wrapping_add(200, *n),
+            Expression::Paren(_) => 0,
+            Expression::Binary(_, line, _, _) => *line,
+        }
+    }
+
+    /// What is read of the signs over the parameters `a` and `b`: the top and the number of operators.
+    fn reading(alloc: Global, bytes: &[u8]) -> Result<Option<(u32, u32)>, Memory> {
+        let mut parameters = Parameters::new(alloc);
+        let _ = parameters.insert(Text::new(alloc, b"a")?)?;
+        let _ = parameters.insert(Text::new(alloc, b"b")?)?;
+        let lexemes = signs(alloc, bytes)?;
+        if lexemes.len() > 1 << 24 {
+            return Ok(None);
+        }
+        match read_expression(alloc, lexemes.as_slice(), &parameters)? {
+            Some(value) => Ok(Some((top(&value), value.operators()))),
+            None => Ok(None),
+        }
+    }
+
+    /// So many times the first bytes, then the second, then as often the third.
+    fn nested(
+        alloc: Global,
+        times: usize,
+        before: &[u8],
+        within: &[u8],
+        behind: &[u8],
+    ) -> Result<Vec<u8>, Memory> {
+        let mut bytes = Vec::new(alloc);
+        for _ in 0..times {
+            bytes.extend_from_slice(before)?;
+        }
+        bytes.extend_from_slice(within)?;
+        for _ in 0..times {
+            bytes.extend_from_slice(behind)?;
+        }
+        Ok(bytes)
+    }
+
+    #[test]
+    fn reads_expressions(rt: HostRuntime) {
+        let rows: [(&[u8], Option<(u32, u32)>); 20] = [
+            (b"a", Some((100, 0))),
+            (b"b", Some((101, 0))),
+            (b"7", Some((207, 0))),
+            (b"(a)", Some((0, 0))),
+            (b"a-b-1", Some((4, 2))),
+            (b"a/b*1", Some((4, 2))),
+            (b"a+b*2", Some((2, 2))),
+            (b"a%b-2", Some((4, 2))),
+            (b"a*(b+2)", Some((2, 2))),
+            (b"(a+b)*2-1/a", Some((8, 4))),
+            (b"", None),
+            (b"()", None),
+            (b"c", None),
+            (b"a+", None),
+            (b"+a", None),
+            (b"ab", None),
+            (b"(a", None),
+            (b"a)", None),
+            (b"a,b", None),
+            (b"a+c", None),
+        ];
+        for (bytes, want) in rows {
+            assert_eq!(rt; reading(rt.alloc(), bytes).expect(&rt, "memory"), want);
+        }
+    }
+
+    #[test]
+    fn keeps_the_limit(rt: HostRuntime) {
+        let rows: [(usize, &[u8], &[u8], Option<(u32, u32)>); 5] = [
+            (255, b"(", b")", Some((0, 0))),
+            (256, b"(", b")", None),
+            (255, b"a+", b"", Some((510, 255))),
+            (256, b"a+", b"", None),
+            (1 << 20, b"(", b"", None),
+        ];
+        for (times, before, behind, want) in rows {
+            let bytes = nested(rt.alloc(), times, before, b"a", behind).expect(&rt, "memory");
+            assert_eq!(rt; reading(rt.alloc(), &bytes).expect(&rt, "memory"), want);
+        }
+    }
+}

@@ -1,0 +1,201 @@
+ghost use Rattle.std.specs.Prelude.{ℕ, ◌≡◌, ◌≤◌, ◌<◌, ◌^◌, [], length, drop, IfOk, IfSome, IfNone};
+ghost use Rattle.std.specs.Prelude.{List as Sequence};
+ghost use Rattle.po_straight.specs.declared.lexeme.Lexeme.{Lexeme as Placed};
+ghost use Rattle.po_straight.specs.declared.definition.Definition.{Definition as Tree};
+ghost use Rattle.po_straight.specs.Definitions.{IsFile, graph_size, AreServed};
+ghost use Rattle.po_straight.specs.Outline.{Starts};
+
+use crate::body::{Body, body_at, graph_size_of};
+use crate::definition::Definition;
+use crate::heading::{Heading, heading_at};
+use crate::lexeme::Lexeme;
+use crate::lexing::lexemes;
+use crate::names::Names;
+use po_base::{List, Memory};
+use std::alloc::Global;
+
+/// The most functions of a file that is served.
+const MOST_FUNCTIONS: usize = 65535;
+
+/// The most nodes times registers of all functions of a file that is served.
+const MOST_FILE_SIZE: u64 = 1 << 24;
+
+/// The definition that stands at a place, and the place behind it. Time linear in its signs but for the
+/// logarithm of the number of its parameters.
+fn definition_at(
+    alloc: Global,
+    lexemes: &[Lexeme],
+    at: usize,
+) -> Result<Option<(Definition, usize)>, Memory>
+    requires { length lexemes.now ≤ 2 ^ 24 }
+    ensures found { IfOk result (λ found. IfSome found (λ p. Starts p.0 (drop at lexemes.now) (drop p.1 lexemes.now))) }
+    ensures within { IfOk result (λ found. IfSome found (λ p. (at < p.1) × (p.1 ≤ length lexemes.now))) }
+    ensures none { IfOk result (λ found. IfNone found ((d : Tree) (left : Sequence Placed) → Starts d (drop at lexemes.now) left → ⊥)) }
+{
+    let Some(heading) = heading_at(alloc, lexemes, at)? else {
+        return Ok(None);
+    };
+    let Heading {
+        name,
+        parameters,
+        end,
+    } = heading;
+    let Some(body) = body_at(alloc, lexemes, end, &parameters)? else {
+        return Ok(None);
+    };
+    let Body { line, value, end } = body;
+    let definition = Definition {
+        name,
+        parameters: parameters.into_names(),
+        line,
+        value,
+    };
+    Ok(Some((definition, end)))
+}
+
+/// How many nodes times registers the graph of a definition has.
+fn size_of(definition: &Definition) -> u64
+    requires { graph_size definition.now ≤ 2 ^ 22 }
+    ensures { result ≡ graph_size definition.now }
+{
+    graph_size_of(definition.parameters.len(), &definition.value)
+}
+
+/// The definitions that the signs are, one after the other, within the limits on a file; None where they are
+/// none. Time linear in the signs but for the logarithm of the number of names.
+fn definitions(alloc: Global, lexemes: &[Lexeme]) -> Result<Option<List<Definition>>, Memory>
+    requires { length lexemes.now ≤ 2 ^ 24 }
+    ensures found { IfOk result (λ found. IfSome found (λ ds. AreServed ds lexemes.now)) }
+    ensures none { IfOk result (λ found. IfNone found ((ds : Sequence Tree) → AreServed ds lexemes.now → ⊥)) }
+{
+    let mut definitions = List::new(alloc);
+    let mut names = Names::new(alloc);
+    let mut size = 0u64;
+    let mut at = 0usize;
+    while at < lexemes.len() {
+        let Some((definition, end)) = definition_at(alloc, lexemes, at)? else {
+            return Ok(None);
+        };
+        if definitions.len() == MOST_FUNCTIONS {
+            return Ok(None);
+        }
+        size += size_of(&definition);
+        if size > MOST_FILE_SIZE {
+            return Ok(None);
+        }
+        if !names.insert(definition.name.share()?)? {
+            return Ok(None);
+        }
+        definitions.push(definition)?;
+        at = end;
+    }
+    Ok(Some(definitions))
+}
+
+/// The definitions of a file of straight integer functions; None where the bytes are no such file. Time linear
+/// in the bytes but for the logarithm of the number of names.
+pub fn read_definitions(alloc: Global, bytes: &[u8]) -> Result<Option<List<Definition>>, Memory>
+    requires { length bytes.now ≤ 2 ^ 24 }
+    ensures found { IfOk result (λ found. IfSome found (λ ds. IsFile ds bytes.now)) }
+    ensures none { IfOk result (λ found. IfNone found ((ds : Sequence Tree) → IsFile ds bytes.now → ⊥)) }
+{
+    match lexemes(alloc, bytes)? {
+        Some(lexemes) => match definitions(alloc, lexemes.as_slice())? {
+            Some(definitions) => Ok(Some(definitions)),
+            None => Ok(None),
+        },
+        None => Ok(None),
+    }
+}
+
+/// No bytes are files of two lists of definitions.
+pub fn file_has_one_reading()
+    ensures { (ds es : Sequence Tree) (bytes : Sequence ℕ) → IsFile ds bytes → IsFile es bytes → ds ≡ es }
+{}
+
+#[cfg(test)]
+mod tests {
+    use super::*;
+
+    /// How many definitions are read of the bytes, and the line of the last one's `return`.
+    fn reading(alloc: Global, bytes: &[u8]) -> Result<Option<(usize, u32)>, Memory> {
+        if bytes.len() > 1 << 24 {
+            return Ok(None);
+        }
+        let Some(definitions) = read_definitions(alloc, bytes)? else {
+            return Ok(None);
+        };
+        let line = match definitions.as_slice().last() {
+            Some(definition) => definition.line,
+            None => 0,
+        };
+        Ok(Some((definitions.len(), line)))
+    }
+
+    #[test]
+    fn reads_files(rt: HostRuntime) {
+        let rows: [(&[u8], Option<(usize, u32)>); 48] = [
+            (b"", Some((0, 0))),
+            (b" \t\n", Some((0, 0))),
+            (b"int f(void){return 1;}", Some((1, 1))),
+            (b"\n int\tf\n(\nvoid ) {\n\nreturn\n1 ; }\n", Some((1, 6))),
+            (
+                b"int f(void){return 1;}int g(int a){return a;}",
+                Some((2, 1)),
+            ),
+            (
+                b"int f(void){return 1;}\nint f_(int a,int b){return a%b;}\n",
+                Some((2, 2)),
+            ),
+            (
+                b"int int_(int returna,int _){return returna;}",
+                Some((1, 1)),
+            ),
+            (b"int f(int f){return f;}", Some((1, 1))),
+            (b"int f(void){return 0;}", Some((1, 1))),
+            (b"int f(void){return 2147483647;}", Some((1, 1))),
+            (b"int f(void){return 2147483648;}", None),
+            (b"int f(void){return 99999999999999999999;}", None),
+            (b"int f(void){return 00;}", None),
+            (b"int f(void){return 01;}", None),
+            (b"int f(void){return 1a;}", None),
+            (b"int f(void){return 0x1;}", None),
+            (b"int f(void){return 1u;}", None),
+            (b"int f(void){return1;}", None),
+            (b"int f(int a){returna;}", None),
+            (b"intf(void){return 1;}", None),
+            (b"int1 f(void){return 1;}", None),
+            (b"int f(inta){return a;}", None),
+            (b"int f(void){return 1;}\r", None),
+            (b"int f(void){return 1;}\x00", None),
+            (b"int f(void){return 1;}\x0c", None),
+            (b"int f\xc3(void){return 1;}", None),
+            (b"int f(int a,int b){return a- -b;}", None),
+            (b"int f(int a,int b){return a--b;}", None),
+            (b"int f(int a){return -a;}", None),
+            (b"int f(void){return 1;}/**/", None),
+            (b"int f(void){return 1;}//", None),
+            (b"int f(int a,int b){return a/b;}", Some((1, 1))),
+            (b"int f(int a){return (a)+(1);}", Some((1, 1))),
+            (b"int f(int a){return (a;}", None),
+            (b"int f(int a){return a);}", None),
+            (b"int f(int a){return;}", None),
+            (b"int f(int a){return a;}}", None),
+            (b"int f(int a){return a;};", None),
+            (b"int f(int a){return a;", None),
+            (b"int f(int a){a;}", None),
+            (b"int f(){return 1;}", None),
+            (b"int f(void,int a){return 1;}", None),
+            (b"int f(int a,){return a;}", None),
+            (b"int f(int){return 1;}", None),
+            (b"int f(int a){return b;}", None),
+            (b"int f(int a,int a){return a;}", None),
+            (b"int while(void){return 1;}", None),
+            (b"int f(void){return 1;}int f(void){return 1;}", None),
+        ];
+        for (bytes, expected) in rows {
+            let found = reading(rt.alloc(), bytes);
+            assert!(rt; matches!(found, Ok(found) if found == expected));
+        }
+    }
+}
