@@ -10,3 +10,4 @@ pub mod Taken
 pub mod Starts
 pub mod Posted
 pub mod Tables
+pub mod Agreeing

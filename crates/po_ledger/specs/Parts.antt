@@ -1,5 +1,5 @@
 -- What the parts of a ledger's calls do to its lists.
-use Rattle.std.specs.Prelude.{ℕ, zero, suc, ◌≡◌, ◌<◌, ◌⊎◌, ◌↔◌, List, [], ◌∷◌, ◌++◌, length, map, slice_get, slice_index_or, Option, Some}
+use Rattle.std.specs.Prelude.{ℕ, zero, suc, ◌≡◌, ◌<◌, ◌⊎◌, ◌↔◌, List, [], ◌∷◌, ◌++◌, length, map, slice_get, slice_index_or, Option, Some, Bool, IsTrue}
 use Rattle.std.specs.List.{Contains}
 use Rattle.po_base.specs.declared.numbers.FileNo.{FileNo}
 use Rattle.po_base.specs.declared.numbers.FunNo.{FunNo}
@@ -11,6 +11,8 @@ use Rattle.po_core.specs.declared.event.Mark.{Mark}
 use Rattle.po_core.specs.declared.event.Mark.TheVariants.{Untaken, Taken, Settled}
 use Rattle.po_core.specs.declared.obl.Cause.TheVariants.{Primary, Support}
 use Rattle.po_core.specs.declared.obl.Obl.{Obl}
+use Rattle.po_core.specs.declared.obl.Verdict.{Verdict}
+use Rattle.po_ledger.specs.View.{items_of}
 use Rattle.po_ledger.specs.declared.marks.Remark.{Remark}
 use Rattle.po_ledger.specs.declared.marks.Remark.TheVariants as r
 
@@ -87,3 +89,17 @@ pub record TakesFrom {P N T : Type 0} (b : Book P N T) (marks : List (Obl P × M
 -- the item is there already, or is new at the end
 abbrev pub AddsItem : {X : Type 0} → List X → List X → X → Type 0
 AddsItem old new x = (Contains old x × (new ≡ old)) ⊎ (new ≡ old ++ x ∷ [])
+
+-- the list of marks has a verdict of the obligation
+abbrev pub HasVerdict : {P N : Type 0} → List (Obl P × Mark P N) → Obl P → Type 0
+HasVerdict {P} {N} marks o = (v : Verdict P N) × Contains marks (o, Settled v)
+
+-- each item that is settled in a hand has a verdict, and each other has none
+abbrev pub AgreesOn : {P N : Type 0} → List (Obl P × Mark P N) → List (Obl P × Bool) → Type 0
+AgreesOn {P} marks hand = (o : Obl P) (settled : Bool) → Contains hand (o, settled) → IsTrue settled ↔ HasVerdict marks o
+
+-- A hand that the ledger keeps is that of a worker's ticket.
+pub record IsHandOf {P N : Type 0} (marks : List (Obl P × Mark P N)) (hand : Hand P) (worker : ℕ) (own : List (Obl P × Bool)) : Type 0 where
+  pub by_worker : hand.worker ≡ worker
+  pub same_items : hand.items ≡ items_of own
+  pub same_settled : AgreesOn marks own

@@ -9,6 +9,7 @@ ghost use Rattle.po_ledger.specs.Calls.{IsNew, Does, HandsOut, CanPost, PostsIte
 ghost use Rattle.po_ledger.specs.Answers.{Answers};
 ghost use Rattle.po_ledger.specs.View.{Fits, IsLedger};
 
+use crate::fitting::{hand_at, is_hand_of};
 use crate::marks::{Marks, Remark, change, first_marks};
 use crate::naming::Naming;
 use crate::next::Next;
@@ -89,6 +90,18 @@ impl<'r, R: Rulebook, J: Naming<R::Pred, R::Rule, R::Table>> Ledger<'r, R, J> {
         ensures { IsTrue result ↔ IsHeld self.now.state file }
     {
         is_held(self.hands.as_slice(), file)
+    }
+
+    /// Whether a ticket is still good: its worker holds its file in this ledger, and the ledger's hand, with what is
+    /// settled, is the ticket's. It takes no memory. Time: the number of the ticket's obligations times that of known
+    /// obligations.
+    pub fn fits(&self, t: &Ticket<R, J>) -> bool
+        ensures { IsTrue result ↔ Fits self.now.state t.now }
+    {
+        match hand_at(self.hands.as_slice(), t.file()) {
+            Some(hand) => is_hand_of(self.book, self.marks.as_slice(), hand, t.worker(), t.hand()),
+            None => false,
+        }
     }
 
     /// Hands the journal out. It takes no memory.

@@ -62,6 +62,13 @@ impl<R: Rulebook, J: Naming<R::Pred, R::Rule, R::Table>> Ticket<R, J> {
         &entry.0
     }
 
+    /// The obligations of its hand, and which of them are settled.
+    pub(crate) fn hand(&self) -> &[(Obl<R::Pred>, bool)]
+        ensures { result.now ≡ self.now.hand }
+    {
+        self.hand.as_slice()
+    }
+
     /// The tables that were made so far, each that of its function.
     pub(crate) fn into_tables(self) -> List<(FunNo, R::Table)>
         ensures { AreTables J.book result }
