@@ -24,12 +24,13 @@ module _ {P N : Type 0} (marks : List (Obl P × Mark P N)) where
     | inr k ↦ subst (λ (z : Obl P × Bool). IsTrue z.1 ↔ HasVerdict marks z.0) k here
   ]
 
-module _ {P N T : Type 0} (l now : LedgerView P N) (q : l ≡ now) (t : TicketView P T) where
-  one_hand : (hands : List (Option (Hand P))) (k : ℕ) (one other : Hand P) → slice_get hands k ≡ Some (Some one) → slice_get hands k ≡ Some (Some other) → other ≡ one
-  one_hand hands k one other a b =
-      let both : ◌≡◌ {A = Option (Option (Hand P))} (Some (Some other)) (Some (Some one)) = sym b ∙ a in
-      cc
+-- a file has one hand
+pub one_hand : {P : Type 0} (hands : List (Option (Hand P))) (k : ℕ) (one other : Hand P) → slice_get hands k ≡ Some (Some one) → slice_get hands k ≡ Some (Some other) → other ≡ one
+one_hand {P} hands k one other a b =
+    let both : ◌≡◌ {A = Option (Option (Hand P))} (Some (Some other)) (Some (Some one)) = sym b ∙ a in
+    cc
 
+module _ {P N T : Type 0} (l now : LedgerView P N) (q : l ≡ now) (t : TicketView P T) where
   pub fits_when : (hands : List (Option (Hand P))) → hands ≡ l.state.hands → (marks : List (Obl P × Mark P N)) → marks ≡ l.state.marks → (file : FileNo) → file ≡ t.file → (worker : ℕ) → worker ≡ t.worker → (own : List (Obl P × Bool)) → own ≡ t.hand → (hand : Hand P) → slice_get hands file.0 ≡ Some (Some hand) → (r : Bool) → (IsTrue r ↔ IsHandOf marks hand worker own) → IsTrue r ↔ Fits now.state t
   fits_when hands eh marks em file ef worker ew own eo hand at r tells =
       let same_hands : hands ≡ now.state.hands = eh ∙ ap (λ (z : LedgerView P N). z.state.hands) q in

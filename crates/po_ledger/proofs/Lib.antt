@@ -11,3 +11,5 @@ pub mod Starts
 pub mod Posted
 pub mod Tables
 pub mod Agreeing
+pub mod Draining
+pub mod Drained

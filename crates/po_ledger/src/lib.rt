@@ -3,14 +3,20 @@
 //! settle obligations, and give files back; each call is one legal event of the core and appends just it.
 #![tactic(auto)]
 
+mod drain;
 mod fitting;
 mod ledger;
 mod marks;
 mod naming;
 mod next;
 mod parts;
+#[cfg(test)]
+mod sample;
+#[cfg(test)]
+mod tests;
 mod ticket;
 
+pub use drain::solve_alone;
 pub use ledger::Ledger;
 pub use naming::Naming;
 pub use next::{Next, ReportFail};
