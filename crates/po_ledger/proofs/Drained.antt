@@ -1,6 +1,6 @@
 -- The steps of one worker that drains a ledger.
-use Rattle.std.proofs.Common.{◌≡◌, ℕ, ◌+◌, ◌<◌, ◌≤◌, List, [], ◌∷◌, refl, sym, ◌∙◌, ap, subst, arith}
-use Rattle.std.specs.Prelude.{Bool, Result, Ok, Err, OnOk, OnErr, true, false, length, slice_set}
+use Rattle.std.proofs.Common.{◌≡◌, ℕ, ◌+◌, ◌<◌, ◌≤◌, List, sym, ◌∙◌, ap, subst, arith}
+use Rattle.std.specs.Prelude.{Bool, Result, Ok, Err, OnOk, OnErr, true, false, slice_set}
 use Rattle.po_core.specs.Book.{Book}
 use Rattle.po_core.specs.Core.{CoreState, IsQuiet, Keeps, Replays}
 use Rattle.po_core.specs.Theorem.{settle_count, most_obligations}

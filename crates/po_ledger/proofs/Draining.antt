@@ -1,13 +1,13 @@
 -- One worker that drains a ledger.
-use Rattle.std.proofs.Common.{◌≡◌, ◌⊎◌, ℕ, zero, suc, ◌+◌, ◌<◌, ◌≤◌, List, [], ◌∷◌, ◌++◌, length, map, set, refl, sym, ◌∙◌, ap, subst, inl, inr, arith}
-use Rattle.std.specs.Prelude.{Bool, true, false, Some, slice_get, slice_set}
+use Rattle.std.proofs.Common.{◌≡◌, ℕ, zero, suc, ◌+◌, ◌<◌, List, [], ◌∷◌, ◌++◌, length, map, set, refl, sym, ◌∙◌, ap, subst, inl, inr, arith}
+use Rattle.std.specs.Prelude.{Bool, true, false, Some, slice_get}
 use Rattle.std.specs.List.{Contains}
 use Rattle.std.proofs.lemmas.Bool.{cases_eq}
 use Rattle.std.proofs.lemmas.List.{length-map, length-set}
 use Rattle.std.proofs.lemmas.Option.{slice_get_read}
 use Rattle.po_base.specs.declared.numbers.FileNo.{FileNo}
-use Rattle.po_core.specs.Book.{Book, IsBook}
-use Rattle.po_core.specs.Core.{CoreState, KeepsHands, KeepsOtherHands, HasHand, IsHeld, Frees}
+use Rattle.po_core.specs.Book.{Book}
+use Rattle.po_core.specs.Core.{CoreState, KeepsHands, HasHand, IsHeld, Frees}
 use Rattle.po_core.specs.Theorem.{settle_count}
 use Rattle.po_core.specs.declared.event.Event.{Event}
 use Rattle.po_core.specs.declared.event.Event.TheVariants.{Take, Post, Settle, Give, PutBack, Ask}

@@ -1,6 +1,5 @@
 -- How one worker drains a ledger that nobody else holds a file of.
-use Rattle.std.specs.Prelude.{ℕ, ◌≡◌, ◌+◌, ◌<◌, ◌≤◌, List, Bool, true, false, length, slice_get, slice_set, Some}
-use Rattle.std.specs.List.{Contains}
+use Rattle.std.specs.Prelude.{ℕ, ◌≡◌, ◌<◌, ◌≤◌, List, Bool, true, false, slice_get, slice_set, Some}
 use Rattle.po_base.specs.declared.numbers.FileNo.{FileNo}
 use Rattle.po_core.specs.Book.{Book}
 use Rattle.po_core.specs.Core.{CoreState, IsHeld}

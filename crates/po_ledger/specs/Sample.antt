@@ -1,14 +1,11 @@
 -- The book of a rulebook in small, for tests: three functions in two files that call each other in a circle. The first
 -- asks two things by itself, and one of them is passed on to the callers, round the circle.
-use Rattle.std.specs.Prelude.{ℕ, zero, suc, ◌≡◌, ◌<◌, ◌↔◌, List, [], ◌∷◌, Option, Some, Bool, true, false, nat_eq, cond, IsTrue}
-use Rattle.std.specs.List.{Contains}
-use Rattle.std.proofs.Common.{refl, arith, ap, sym, subst, inl, inr}
+use Rattle.std.specs.Prelude.{ℕ, zero, suc, ◌≡◌, ◌<◌, List, [], ◌∷◌, Some, Bool, true, false, nat_eq, cond}
+use Rattle.std.proofs.Common.{arith, inl, inr}
 use Rattle.std.proofs.lemmas.Bool.{eqb-true, eq-eqb}
-use Rattle.po_base.specs.declared.numbers.FileNo.{FileNo}
 use Rattle.po_base.specs.declared.numbers.FunNo.{FunNo}
 use Rattle.po_base.specs.declared.numbers.NodeNo.{NodeNo}
 use Rattle.po_core.specs.Book.{Book, IsBook}
-use Rattle.po_core.specs.declared.obl.Obl.{Obl}
 use Rattle.po_core.specs.declared.obl.Verdict.{Verdict}
 use Rattle.po_core.specs.declared.obl.Verdict.TheVariants.{Open, Closed, Delegated}
 use Rattle.po_core.proofs.Lists.{Has, has, contains}
