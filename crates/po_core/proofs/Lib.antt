@@ -1,0 +1,9 @@
+pub mod Lists
+pub mod Members
+pub mod Inside
+pub mod Possible
+pub mod Orderly
+pub mod Judged
+pub mod Once
+pub mod Quiet
+pub mod Count

@@ -1,0 +1,4 @@
+pub mod Book
+pub mod Least
+pub mod Core
+pub mod Theorem

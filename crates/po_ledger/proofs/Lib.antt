@@ -1,0 +1,15 @@
+pub mod Lists
+pub mod Adds
+pub mod Remarked
+pub mod Effects
+pub mod Room
+pub mod Kept
+pub mod Settled
+pub mod Items
+pub mod Taken
+pub mod Starts
+pub mod Posted
+pub mod Tables
+pub mod Agreeing
+pub mod Draining
+pub mod Drained

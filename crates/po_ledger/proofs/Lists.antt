@@ -1,0 +1,134 @@
+-- Marks in a list.
+use Rattle.std.proofs.Common.{◌≡◌, ◌⊎◌, ℕ, ◌+◌, ◌<◌, List, [], ◌∷◌, ◌++◌, length, map, take, get_or, refl, sym, ◌∙◌, ap, subst, inl, inr, arith, zero, suc}
+use Rattle.std.specs.List.{Contains}
+use Rattle.std.proofs.lemmas.List.{take_more}
+use Rattle.std.proofs.lemmas.List.Elements.{Contains-push_cases}
+use Rattle.po_core.proofs.Lists.{Has, has, contains, contains_map, has_from_map}
+use Rattle.po_core.specs.Core.{AreApart}
+use Rattle.po_core.specs.declared.event.Mark.{Mark}
+use Rattle.po_core.specs.declared.obl.Obl.{Obl}
+use Rattle.std.specs.Prelude.{Option, Some, None, slice_get, IsSome, true, false}
+use Rattle.std.proofs.lemmas.Option.{slice_get_read}
+use Rattle.std.proofs.lemmas.Bool.{cases_eq}
+use Rattle.std.proofs.lemmas.List.Elements.{Contains-push, Contains-append_left}
+use Rattle.po_base.specs.declared.numbers.FileNo.{FileNo}
+use Rattle.po_core.specs.Book.{Book, file_of_obl}
+use Rattle.po_core.specs.declared.event.Hand.{Hand}
+use Rattle.po_core.specs.declared.event.Mark.TheVariants.{Untaken}
+use Rattle.po_ledger.specs.Parts.{HasKey, HandAt, NoneTakeable, PushesUntaken, TakesFrom}
+
+-- the list up to one more item
+pub take_read : {X : Type 0} (xs : List X) (i : ℕ) (x : X) → i < length xs → x ≡ get_or xs i x → take (i + 1) xs ≡ take i xs ++ x ∷ []
+take_read xs i x l q = take_more xs i x l ∙ ap (λ y. take i xs ++ y ∷ []) (sym q)
+
+pub key_more : {P N : Type 0} (marks : List (Obl P × Mark P N)) (i : ℕ) (e : Obl P × Mark P N) (o : Obl P) → i < length marks → e ≡ get_or marks i e → (HasKey (take i marks) o → ⊥) → (e.0 ≡ o → ⊥) → HasKey (take (i + 1) marks) o → ⊥
+key_more {P} {N} marks i e o l q none other h =
+    let here : Contains (take i marks ++ e ∷ []) (o, h.0) = subst (λ (z : List (Obl P × Mark P N)). Contains z (o, h.0)) (take_read marks i e l q) h.1 in
+    elim (Contains-push_cases (take i marks) e (o, h.0) here) [ inl x ↦ none (h.0, x) | inr x ↦ other (ap (λ (z : Obl P × Mark P N). z.0) x) ]
+
+-- keys of a list of marks
+pub key_of_mark : {P N : Type 0} (marks : List (Obl P × Mark P N)) (o : Obl P) → Contains (map (λ e. e.0) marks) o → HasKey marks o
+key_of_mark {P} {N} marks o h =
+    let x = has_from_map (λ (e : Obl P × Mark P N). e.0) marks o (has _ o h) in
+    (x.0.1, contains marks (o, x.0.1) (subst (λ (z : Obl P). Has marks (z, x.0.1)) x.2 x.1))
+
+pub mark_of_key : {P N : Type 0} (marks : List (Obl P × Mark P N)) (o : Obl P) → HasKey marks o → Contains (map (λ e. e.0) marks) o
+mark_of_key {P} {N} marks o h = contains_map (λ (e : Obl P × Mark P N). e.0) marks (o, h.0) h.1
+
+-- items that stand apart, and one more
+pub apart_push : {X : Type 0} (xs : List X) (x : X) → AreApart xs → ¬ Contains xs x → AreApart (xs ++ x ∷ [])
+apart_push [] x a other = (λ h. has [] x h, tt)
+apart_push {X = X} (y ∷ ys) x a other = (
+  λ h. elim (Contains-push_cases ys x y h) [
+    | inl k ↦ a.0 k
+    | inr q ↦ other (contains (y ∷ ys) x (inl (sym q)))
+  ],
+  apart_push ys x a.1 (λ h. other (contains (y ∷ ys) x (inr (has ys x h)))),
+)
+
+pub both_along : {X Y : Type 0} (Q : X → Y → Type 0) {x z : X} {y w : Y} → x ≡ z → y ≡ w → Q x y → Q z w
+both_along Q {z = z} {y = y} p q h = subst (λ v. Q z v) q (subst (λ v. Q v y) p h)
+
+-- an item read at a place is in the list
+pub read_in : {X : Type 0} (xs : List X) (i : ℕ) (x : X) → i < length xs → x ≡ get_or xs i x → Contains xs x
+read_in xs i x l q = (i, l, sym q)
+
+-- the front up to one more item
+pub front_cases : {X : Type 0} (xs : List X) (i : ℕ) (e x : X) → i < length xs → e ≡ get_or xs i e → Contains (take (i + 1) xs) x → Contains (take i xs) x ⊎ (e ≡ x)
+front_cases {X} xs i e x l q h = Contains-push_cases (take i xs) e x (subst (λ (z : List X). Contains z x) (take_read xs i e l q) h)
+
+pub front_last : {X : Type 0} (xs : List X) (i : ℕ) (e : X) → i < length xs → e ≡ get_or xs i e → Contains (take (i + 1) xs) e
+front_last {X} xs i e l q = subst (λ (z : List X). Contains z e) (sym (take_read xs i e l q)) (Contains-push (take i xs) e)
+
+pub front_more : {X : Type 0} (xs : List X) (i : ℕ) (e x : X) → i < length xs → e ≡ get_or xs i e → Contains (take i xs) x → Contains (take (i + 1) xs) x
+front_more {X} xs i e x l q h = subst (λ (z : List X). Contains z x) (sym (take_read xs i e l q)) (Contains-append_left (take i xs) (e ∷ []) x h)
+
+module _ {P N T : Type 0} (b : Book P N T) where
+  pub none_more : (marks : List (Obl P × Mark P N)) (hands : List (Option (Hand P))) (i : ℕ) (e : Obl P × Mark P N) → i < length marks → e ≡ get_or marks i e → NoneTakeable b (take i marks) hands → (e.1 ≡ Untaken → HandAt hands (file_of_obl b e.0)) → NoneTakeable b (take (i + 1) marks) hands
+  none_more marks hands i e l q none here o h = elim (front_cases marks i e (o, Untaken) l q h) [
+    | inl k ↦ none o k
+    | inr k ↦ subst (λ (z : Obl P). HandAt hands (file_of_obl b z)) (ap (λ (z : Obl P × Mark P N). z.0) k) (here (ap (λ (z : Obl P × Mark P N). z.1) k))
+  ]
+
+  -- a key stands at one place
+  key_once : (marks : List (Obl P × Mark P N)) (i : ℕ) (e : Obl P × Mark P N) → AreApart (map (λ x. x.0) marks) → i < length marks → e ≡ get_or marks i e → (m : Mark P N) → Has (take i marks) (e.0, m) → ⊥
+  key_once [] i e a l q m h = absurd (omega arith)
+  key_once (x ∷ xs) zero e a l q m h = h
+  key_once (x ∷ xs) (suc i) e a l q m h =
+      let later : i < length xs = omega arith in
+      elim h [
+        | inl k ↦ a.0 (mark_of_key xs x.0 (e.1, subst (λ (z : Obl P). Contains xs (z, e.1)) (ap (λ (z : Obl P × Mark P N). z.0) (sym k)) (read_in xs i e later q)))
+        | inr k ↦ key_once xs i e a.1 later q m k
+      ]
+
+  pub takes_none : (marks : List (Obl P × Mark P N)) (file : FileNo) → TakesFrom b (take 0 marks) file []
+  takes_none marks file = record { all = λ o. (λ h. absurd (has [] o h), λ h. absurd (has [] (o, Untaken) h.0)); once = tt }
+
+  pub takes_more : (marks : List (Obl P × Mark P N)) (file : FileNo) (i : ℕ) (e : Obl P × Mark P N) (items new : List (Obl P)) → AreApart (map (λ x. x.0) marks) → i < length marks → e ≡ get_or marks i e → TakesFrom b (take i marks) file items → PushesUntaken b file e items new → TakesFrom b (take (i + 1) marks) file new
+  takes_more marks file i e items new a l q t (inl p) =
+      let is : Obl P → Type 0 = λ o. Contains new o in
+      let entry : (o : Obl P) → e.0 ≡ o → ◌≡◌ {A = Obl P × Mark P N} e (o, Untaken) = λ o k. ap (λ (z : Mark P N). let y : Obl P × Mark P N = (e.0, z) in y) p.0.0 ∙ ap (λ (z : Obl P). let y : Obl P × Mark P N = (z, Untaken) in y) k in
+      record {
+        all = λ o. (
+          λ h. elim (Contains-push_cases items e.0 o (subst (λ (z : List (Obl P)). Contains z o) p.1 h)) [
+            | inl k ↦ (let x = (t.all o).0 k in (front_more marks i e (o, Untaken) l q x.0, x.1))
+            | inr k ↦ (subst (λ (z : Obl P × Mark P N). Contains (take (i + 1) marks) z) (entry o k) (front_last marks i e l q), subst (λ (z : Obl P). file_of_obl b z ≡ file) k p.0.1)
+          ],
+          λ h. subst (λ (z : List (Obl P)). Contains z o) (sym p.1) (elim (front_cases marks i e (o, Untaken) l q h.0) [
+            | inl k ↦ Contains-append_left items (e.0 ∷ []) o ((t.all o).1 (k, h.1))
+            | inr k ↦ subst (λ (z : Obl P). Contains (items ++ e.0 ∷ []) z) (ap (λ (z : Obl P × Mark P N). z.0) k) (Contains-push items e.0)
+          ]),
+        );
+        once = subst (λ (z : List (Obl P)). AreApart z) (sym p.1) (apart_push items e.0 t.once (λ h. key_once marks i e a l q Untaken (has _ _ ((t.all e.0).0 h).0)));
+      }
+  takes_more marks file i e items new a l q t (inr p) = record {
+    all = λ o. (
+      λ h. let x = (t.all o).0 (subst (λ (z : List (Obl P)). Contains z o) p.1 h) in (front_more marks i e (o, Untaken) l q x.0, x.1),
+      λ h. subst (λ (z : List (Obl P)). Contains z o) (sym p.1) (elim (front_cases marks i e (o, Untaken) l q h.0) [
+        | inl k ↦ (t.all o).1 (k, h.1)
+        | inr k ↦ absurd (p.0 (ap (λ (z : Obl P × Mark P N). z.1) k, subst (λ (z : Obl P). file_of_obl b z ≡ file) (sym (ap (λ (z : Obl P × Mark P N). z.0) k)) h.1))
+      ]),
+    );
+    once = subst (λ (z : List (Obl P)). AreApart z) (sym p.1) t.once;
+  }
+
+-- hands up to one more place
+pub no_hand_more : {P : Type 0} (hands : List (Option (Hand P))) (i : ℕ) (e : Option (Hand P)) → i < length hands → e ≡ get_or hands i e → ((k : ℕ) (hand : Hand P) → k < i → slice_get hands k ≡ Some (Some hand) → ⊥) → (IsSome e → ⊥) → (k : ℕ) (hand : Hand P) → k < i + 1 → slice_get hands k ≡ Some (Some hand) → ⊥
+no_hand_more {P} hands i e l q before here k hand lt h = elim (cases_eq k i) [
+  | inl same ↦ (
+      let at : slice_get hands i ≡ Some e = slice_get_read hands (length hands) i e refl l q in
+      let both : ◌≡◌ {A = Option (Option (Hand P))} (Some e) (Some (Some hand)) = sym at ∙ (ap (λ (j : ℕ). slice_get hands j) (sym same) ∙ h) in
+      let is : e ≡ Some hand = cc in
+      here (rw is refl)
+      )
+  | inr ne ↦ before k hand (let other : k ≡ i → ⊥ = ne in omega arith) h
+]
+
+pub some_of : {X : Type 0} (o : Option X) → IsSome o → (x : X) × (o ≡ Some x)
+some_of None h = absurd (let f : false ≡ true = h in cc)
+some_of (Some x) h = (x, refl)
+
+pub hand_read : {P : Type 0} (hands : List (Option (Hand P))) (i : ℕ) (e : Option (Hand P)) → i < length hands → e ≡ get_or hands i e → IsSome e → (file : FileNo) × HandAt hands file
+hand_read {P} hands i e l q h =
+    let x = some_of e h in
+    (record { 0 = i }, (x.0, slice_get_read hands (length hands) i e refl l q ∙ ap (λ (z : Option (Hand P)). let y : Option (Option (Hand P)) = Some z in y) x.1))

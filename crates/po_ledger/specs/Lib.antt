@@ -1,0 +1,7 @@
+pub mod View
+pub mod Calls
+pub mod Empty
+pub mod Parts
+pub mod Answers
+pub mod Sample
+pub mod Alone

@@ -1,0 +1,129 @@
+ghost use Rattle.std.specs.Prelude.{◌≡◌, ◌↔◌, Some, slice_get, IsTrue, IfSome, IfNone};
+ghost use Rattle.std.specs.List.{Contains};
+ghost use Rattle.po_core.specs.declared.event.Mark.TheVariants.{Settled};
+ghost use Rattle.po_core.specs.declared.obl.Verdict.{Verdict};
+ghost use Rattle.po_ledger.specs.Parts.{HandAt, HasVerdict, AgreesOn, IsHandOf};
+ghost use Rattle.po_ledger.specs.View.{items_of};
+
+use crate::marks::is_same;
+use po_base::FileNo;
+use po_core::{Hand, Mark, Obl, Rulebook};
+
+/// The hand that holds a file, where it is held, in constant time.
+pub(crate) fn hand_at<P: Copy>(hands: &[Option<Hand<P>>], file: FileNo) -> Option<&Hand<P>>
+    ensures some { IfSome result (λ hand. slice_get hands.now file.0 ≡ Some (Some hand.now)) }
+    ensures none { IfNone result (¬ HandAt hands.now file) }
+{
+    match hands.get(file.0 as usize) {
+        Some(Some(hand)) => Some(hand),
+        _ => None,
+    }
+}
+
+/// Whether a hand that the ledger keeps is that of a worker's ticket. Time: the number of the ticket's obligations
+/// times that of known obligations.
+pub(crate) fn is_hand_of<R: Rulebook>(
+    book: &R,
+    marks: &[(Obl<R::Pred>, Mark<R::Pred, R::Rule>)],
+    hand: &Hand<R::Pred>,
+    worker: u8,
+    own: &[(Obl<R::Pred>, bool)],
+) -> bool
+    ensures { IsTrue result ↔ IsHandOf marks.now hand.now worker own.now }
+{
+    if hand.worker == worker {
+        if are_items(book, hand.items.as_slice(), own) {
+            return agree_on(book, marks, own);
+        }
+    }
+    false
+}
+
+/// Whether obligations are those of a hand, in this order. Time: their number.
+fn are_items<R: Rulebook>(book: &R, items: &[Obl<R::Pred>], own: &[(Obl<R::Pred>, bool)]) -> bool
+    ensures { IsTrue result ↔ (items.now ≡ items_of own.now) }
+{
+    if items.len() != own.len() {
+        return false;
+    }
+    for at in 0..items.len() {
+        if !is_item(book, &items[at], &own[at]) {
+            return false;
+        }
+    }
+    true
+}
+
+/// Whether an obligation is that of an entry of a hand.
+fn is_item<R: Rulebook>(book: &R, item: &Obl<R::Pred>, entry: &(Obl<R::Pred>, bool)) -> bool
+    ensures { IsTrue result ↔ (item.now ≡ entry.now.0) }
+{
+    is_same(book, item, &entry.0)
+}
+
+/// Whether each settled item of a hand has a verdict, and each other has none.
+fn agree_on<R: Rulebook>(
+    book: &R,
+    marks: &[(Obl<R::Pred>, Mark<R::Pred, R::Rule>)],
+    own: &[(Obl<R::Pred>, bool)],
+) -> bool
+    ensures { IsTrue result ↔ AgreesOn marks.now own.now }
+{
+    for at in 0..own.len() {
+        if !agrees(book, marks, &own[at]) {
+            return false;
+        }
+    }
+    true
+}
+
+/// Whether an item is settled just where it has a verdict.
+fn agrees<R: Rulebook>(
+    book: &R,
+    marks: &[(Obl<R::Pred>, Mark<R::Pred, R::Rule>)],
+    entry: &(Obl<R::Pred>, bool),
+) -> bool
+    ensures { IsTrue result ↔ (IsTrue entry.now.1 ↔ HasVerdict marks.now entry.now.0) }
+{
+    entry.1 == has_verdict(book, marks, &entry.0)
+}
+
+/// Whether an obligation has a verdict. Time: the number of known obligations.
+fn has_verdict<R: Rulebook>(
+    book: &R,
+    marks: &[(Obl<R::Pred>, Mark<R::Pred, R::Rule>)],
+    o: &Obl<R::Pred>,
+) -> bool
+    ensures { IsTrue result ↔ HasVerdict marks.now o.now }
+{
+    for at in 0..marks.len() {
+        if is_verdict_of(book, &marks[at], o) {
+            return true;
+        }
+    }
+    false
+}
+
+/// Whether a mark is an obligation's verdict.
+fn is_verdict_of<R: Rulebook>(
+    book: &R,
+    entry: &(Obl<R::Pred>, Mark<R::Pred, R::Rule>),
+    o: &Obl<R::Pred>,
+) -> bool
+    ensures { IsTrue result ↔ ((v : Verdict R.Pred R.Rule) × (entry.now ≡ (o.now, Settled v))) }
+{
+    if is_settled(&entry.1) {
+        return is_same(book, &entry.0, o);
+    }
+    false
+}
+
+/// Whether a mark is a verdict.
+fn is_settled<P: Copy, N: Copy>(mark: &Mark<P, N>) -> bool
+    ensures { IsTrue result ↔ ((v : Verdict P N) × (mark.now ≡ Settled v)) }
+{
+    match mark {
+        Mark::Settled(_) => true,
+        _ => false,
+    }
+}

@@ -1,0 +1,23 @@
+//! The ledger of an analysis: which obligations are known and how far each has come, who holds which file, what
+//! is assumed, and the journal of all that happened. Workers take work from it by tickets, post assumptions,
+//! settle obligations, and give files back; each call is one legal event of the core and appends just it.
+#![tactic(auto)]
+
+mod drain;
+mod fitting;
+mod ledger;
+mod marks;
+mod naming;
+mod next;
+mod parts;
+#[cfg(test)]
+mod sample;
+#[cfg(test)]
+mod tests;
+mod ticket;
+
+pub use drain::solve_alone;
+pub use ledger::Ledger;
+pub use naming::Naming;
+pub use next::{Next, ReportFail};
+pub use ticket::Ticket;
