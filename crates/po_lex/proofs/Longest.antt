@@ -43,17 +43,17 @@ skip_goes row before (c ∷ cs) ys e =
       | false ↦ (λ q. absurd (cc))
     ] e
 
-rest_short : (row : Row) (o : ℕ) (close text left rest : List ℕ) → o ≤ length text → skip row 0 (drop o text) ≡ close ++ [] →
-    skip row 0 (drop o (text ++ left)) ≡ close ++ rest → length rest ≤ length left
+rest_short : (row : Row) (o : ℕ) (close text left rest : List ℕ) → o ≤ length text → skip row (0) (drop o text) ≡ close ++ [] →
+    skip row (0) (drop o (text ++ left)) ≡ close ++ rest → length rest ≤ length left
 rest_short row o [] text left rest within alone more =
     let d : drop o (text ++ left) ≡ drop o text ++ left = drop-append-le o text left within in
-    let h : length (skip row 0 (drop o text ++ left)) ≤ length left = skip_goes row 0 (drop o text) left alone in
-    let e : length (skip row 0 (drop o text ++ left)) ≡ length rest = ap (λ v. length (skip row 0 v)) (sym d) ∙ ap length more in
+    let h : length (skip row (0) (drop o text ++ left)) ≤ length left = skip_goes row (0) (drop o text) left alone in
+    let e : length (skip row (0) (drop o text ++ left)) ≡ length rest = ap (λ v. length (skip row (0) v)) (sym d) ∙ ap length more in
     omega arith
 rest_short row o (q ∷ qs) text left rest within alone more =
     let d : drop o (text ++ left) ≡ drop o text ++ left = drop-append-le o text left within in
-    let a : skip row 0 (drop o text ++ left) ≡ (q ∷ qs) ++ left = skip_stops row 0 (drop o text) left qs q (alone ∙ append-nil (q ∷ qs)) in
-    let e : left ≡ rest = append_cancel_left (q ∷ qs) left rest (sym a ∙ ap (skip row 0) (sym d) ∙ more) in
+    let a : skip row (0) (drop o text ++ left) ≡ (q ∷ qs) ++ left = skip_stops row (0) (drop o text) left qs q (alone ∙ append-nil (q ∷ qs)) in
+    let e : left ≡ rest = append_cancel_left (q ∷ qs) left rest (sym a ∙ ap (skip row (0)) (sym d) ∙ more) in
     let n : length left ≡ length rest = ap length e in
     omega arith
 

@@ -106,9 +106,9 @@ fn stands(bytes: &[u8], at: usize, byte: u8) -> bool
 /// that is missing. Time linear in the row.
 fn closed_end(bytes: &[u8], opening: usize, row: Row, closing: Option<u8>) -> Option<usize>
     requires { opening ≤ length bytes.now }
-    ensures found { IfSome result (λ end. skip row 0 (drop opening bytes.now) ≡ option_to_list closing ++ drop end bytes.now) }
+    ensures found { IfSome result (λ end. skip row (0) (drop opening bytes.now) ≡ option_to_list closing ++ drop end bytes.now) }
     ensures ends { IfSome result (λ end. (opening ≤ end) × (end ≤ length bytes.now)) }
-    ensures none { IfNone result ((rest : Bytes ℕ) → skip row 0 (drop opening bytes.now) ≡ option_to_list closing ++ rest → ⊥) }
+    ensures none { IfNone result ((rest : Bytes ℕ) → skip row (0) (drop opening bytes.now) ≡ option_to_list closing ++ rest → ⊥) }
 {
     let end = row_end(bytes, opening, row);
     match closing {

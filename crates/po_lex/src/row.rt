@@ -68,8 +68,8 @@ pub(crate) fn row_end(bytes: &[u8], at: usize, row: Row) -> usize
     requires { at ≤ length bytes.now }
     ensures after { at ≤ result }
     ensures within { result ≤ length bytes.now }
-    ensures front { take (result - at) (drop at bytes.now) ≡ front row 0 (drop at bytes.now) }
-    ensures rest { drop result bytes.now ≡ skip row 0 (drop at bytes.now) }
+    ensures front { take (result - at) (drop at bytes.now) ≡ front row (0) (drop at bytes.now) }
+    ensures rest { drop result bytes.now ≡ skip row (0) (drop at bytes.now) }
 {
     let mut end = at;
     let mut before = 0;

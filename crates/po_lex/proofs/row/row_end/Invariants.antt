@@ -6,8 +6,8 @@ abbrev pub invariant-loop-end : goal.invariant-loop-end
 invariant-loop-end l = record {
   after : l.at ≤ l.end;
   within : l.end ≤ length l.bytes;
-  front : take (l.end - l.at) (drop l.at l.bytes) ++ front l.row l.before (drop l.end l.bytes) ≡ front l.row 0 (drop l.at l.bytes);
-  rest : skip l.row l.before (drop l.end l.bytes) ≡ skip l.row 0 (drop l.at l.bytes);
+  front : take (l.end - l.at) (drop l.at l.bytes) ++ front l.row l.before (drop l.end l.bytes) ≡ front l.row (0) (drop l.at l.bytes);
+  rest : skip l.row l.before (drop l.end l.bytes) ≡ skip l.row (0) (drop l.at l.bytes);
 }
 
 abbrev pub decreases-loop-end : goal.decreases-loop-end
