@@ -4,5 +4,6 @@ mod Parts
 mod Fronts
 mod Walks
 mod Remains
+mod Widths
 mod Unique
 mod Longest

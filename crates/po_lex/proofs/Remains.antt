@@ -1,21 +1,9 @@
 -- Steps of the reader that keeps tokens.
-use Rattle.std.proofs.Common.{◌≡◌, ℕ, ◌+◌, ◌-◌, ◌<◌, ◌≤◌, List, [], ◌∷◌, ◌++◌, length, get_or, take, drop, arith, sym, ap, refl, ◌∙◌, subst, append_assoc}
-use Rattle.std.specs.Prelude.{Some, None}
-use Rattle.std.proofs.lemmas.List.{drop_more, drop-drop, take-append-drop, length-drop, length-take-le}
+use Rattle.std.proofs.Common.{◌≡◌, ℕ, ◌+◌, ◌-◌, ◌<◌, ◌≤◌, List, ◌∷◌, ◌++◌, length, take, drop, arith, sym, ap, ◌∙◌, subst, append_assoc}
+use Rattle.std.proofs.lemmas.List.{drop-drop, take-append-drop, length-drop, length-take-le}
 use Rattle.po_base.specs.declared.token.Token.{Token}
-use Rattle.po_lex.specs.Brackets.{State, step}
-use Rattle.po_lex.specs.Keeping.{group, Keeps, more, advance, size, kept_of, at_start}
+use Rattle.po_lex.specs.Keeping.{Keeps, more, advance, size, kept_of, at_start}
 use Rattle.po_lex.specs.declared.keeping.Mood.{Mood}
-
-group-none : (n : ℕ) (ts : List Token) → group n None ts ≡ 0
-group-none n [] = refl
-group-none n (t ∷ ts) = refl
-
-pub group_stuck : (n : ℕ) (s : State) (tokens : List Token) (at : ℕ) (t : Token) → at < length tokens → t ≡ get_or tokens at t → step s t ≡ None →
-    group n (Some s) (drop at tokens) ≡ 0
-group_stuck n s tokens at t in' q stuck =
-    let e : drop at tokens ≡ t ∷ drop (at + 1) tokens = drop_more tokens at t in' ∙ ap (λ v. v ∷ drop (at + 1) tokens) (sym q) in
-    rw (e, stuck) (group-none (n + 1) (drop (at + 1) tokens))
 
 pub keeps_on : (read done grown : List Token) (m now : Mood) (at n : ℕ) (t : Token) (us : List Token) → drop at read ≡ t ∷ us → n ≡ size m t us →
     now ≡ advance m (take n (drop at read)) → grown ≡ done ++ kept_of n t us →

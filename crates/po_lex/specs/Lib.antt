@@ -8,4 +8,5 @@ pub mod Brackets
 pub mod Pieces
 pub mod Shapes
 pub mod Keeping
+pub mod Closings
 pub mod Laws

@@ -1,10 +1,12 @@
-ghost use Rattle.std.specs.Prelude.{ℕ, ◌≡◌, ◌≤◌, ◌<◌, ◌+◌, ◌-◌, ◌^◌, ◌++◌, ◌==◌, ◌&&◌, length, take, drop, map, IfOk, OnOk, Some, List as Items};
+ghost use Rattle.std.specs.Prelude.{ℕ, ◌≡◌, ◌≤◌, ◌<◌, ◌+◌, ◌-◌, ◌^◌, ◌++◌, ◌==◌, ◌&&◌, length, take, drop, map, slice_index, IfOk, OnOk, List as Items};
 ghost use Rattle.std.specs.List.{list_any};
 ghost use Rattle.po_base.specs.declared.token.Token.{Token as Placed};
-ghost use Rattle.po_lex.specs.Brackets.{closer, is_closer, mark, outset, state_of};
-ghost use Rattle.po_lex.specs.Keeping.{advance, assembler, at_start, attribute, begins_paren, consts, deeper, doubled, dropped, group, inlines, is_among, is_one_of, kept_of, may_end, parens, renamed, size, stays, telling, Keeps};
+ghost use Rattle.po_lex.specs.Brackets.{closer, is_closer, mark};
+ghost use Rattle.po_lex.specs.Closings.{parens_from_each};
+ghost use Rattle.po_lex.specs.Keeping.{advance, assembler, at_start, attribute, consts, deeper, doubled, dropped, inlines, is_among, is_one_of, kept_of, may_end, renamed, size, stays, telling, Keeps};
 
-use crate::walk::{Walk, closer, is_closer, is_word, mark};
+use crate::closing::parens_from_each;
+use crate::walk::{closer, is_closer, is_word, mark};
 use po_base::{List, Memory, Text, Token, Tokens};
 use std::alloc::Global;
 
@@ -59,57 +61,30 @@ fn is_one_of(words: &[&[u8]], token: &Token) -> bool
     is_word(token.kind) && is_among(words, token.text.bytes())
 }
 
-/// How many tokens there are up to the first behind which no bracket is open; 0 where brackets don't match before, or
-/// there is no such token. Time linear in their number.
-fn group(alloc: Global, tokens: &[Token]) -> Result<usize, Memory>
-    ensures value { IfOk result (λ n. n ≡ group 0 (Some outset) tokens.now) }
-    ensures within { IfOk result (λ n. n ≤ length tokens.now) }
+/// How many tokens the parentheses have that stand first from a place on, as `widths` tells; 0 behind the last.
+fn width_at(widths: &[u32], at: usize) -> usize
+    ensures value { result ≡ slice_index widths.now at }
+    ensures few { result < 2 ^ 32 }
 {
-    let mut walk = Walk::new(alloc);
-    for at in 0..tokens.len() {
-        if !walk.step(&tokens[at])? {
-            return Ok(0);
-        }
-        if walk.open.is_empty() {
-            return Ok(at + 1);
-        }
-    }
-    Ok(0)
-}
-
-/// Whether a `(` stands first.
-fn begins_paren(tokens: &[Token]) -> bool
-    ensures { result ≡ begins_paren tokens.now }
-{
-    0 < tokens.len() && mark(&tokens[0]) == b'('
-}
-
-/// How many tokens the parentheses have that stand first; 0 where none stand there. Time linear in their number.
-fn parens(alloc: Global, tokens: &[Token]) -> Result<usize, Memory>
-    ensures value { IfOk result (λ n. n ≡ parens tokens.now) }
-    ensures within { IfOk result (λ n. n ≤ length tokens.now) }
-{
-    if begins_paren(tokens) {
-        group(alloc, tokens)
+    if at < widths.len() {
+        widths[at] as usize
     } else {
-        Ok(0)
+        0
     }
 }
 
-/// How many tokens the double parentheses have that stand first; 0 where none stand there. Time linear in their number.
-fn doubled(alloc: Global, tokens: &[Token]) -> Result<usize, Memory>
-    ensures value { IfOk result (λ n. n ≡ doubled tokens.now) }
-    ensures within { IfOk result (λ n. n ≤ length tokens.now) }
+/// How many tokens the double parentheses have that stand first; 0 where none stand there. `widths` tells how many the
+/// parentheses have from each token on. Constant time.
+fn doubled(widths: &[u32]) -> usize
+    ensures value { (tokens : Items Placed) → widths.now ≡ parens_from_each tokens → result ≡ doubled tokens }
+    ensures few { result < 2 ^ 32 }
 {
-    if tokens.is_empty() {
-        return Ok(0);
-    }
-    let inner = parens(alloc, &tokens[1..])?;
-    let outer = parens(alloc, tokens)?;
+    let outer = width_at(widths, 0);
+    let inner = width_at(widths, 1);
     if inner != 0 && inner + 2 == outer {
-        Ok(outer)
+        outer
     } else {
-        Ok(0)
+        0
     }
 }
 
@@ -153,18 +128,20 @@ impl Mood {
         mood
     }
 
-    /// How many tokens are judged at once from `first` on, behind which the others come. Time linear in their number.
-    fn size(self, alloc: Global, first: &Token, others: &[Token]) -> Result<usize, Memory>
-        ensures value { IfOk result (λ n. n ≡ size self first.now others.now) }
-        ensures within { IfOk result (λ n. (0 < n) × (n ≤ length others.now + 1)) }
+    /// How many tokens are judged at once from `first` on. `widths` tells how many the parentheses have from each token
+    /// behind it on. Constant time.
+    fn size(self, first: &Token, widths: &[u32]) -> usize
+        ensures value { (others : Items Placed) → widths.now ≡ parens_from_each others → result ≡ size self first.now others }
+        ensures some { 0 < result }
+        ensures few { result ≤ 2 ^ 32 }
     {
         if is_one_of(&ATTRIBUTE, first) {
-            return Ok(doubled(alloc, others)? + 1);
+            return doubled(widths) + 1;
         }
         if self.may_drop(first) {
-            return Ok(parens(alloc, others)? + 1);
+            return width_at(widths, 0) + 1;
         }
-        Ok(1)
+        1
     }
 
     /// Whether an `__asm__` is dropped here with its parentheses.
@@ -281,9 +258,8 @@ fn same_names(alloc: Global, names: &List<Text>) -> Result<List<Text>, Memory>
 /// The kept tokens of a file, and its names: `__extension__`, `__restrict` and `__restrict__` are dropped, and so are
 /// `__attribute__` with its double parentheses, unless they hold a word that changes a layout or a type, and outside
 /// brackets `__asm__` with its parentheses behind a word, a `)` or a `]`. `__inline` and `__inline__` are read as
-/// `inline`, `__const` as `const`. Texts are handed on and not copied. Time is linear in the tokens where brackets match;
-/// where they don't, each `__attribute__` and `__asm__` looks ahead as far as its brackets do match. Memory is linear in
-/// the tokens.
+/// `inline`, `__const` as `const`. Texts are handed on and not copied. Time and memory are linear in the tokens, whether
+/// brackets match or not.
 pub fn kept(alloc: Global, tokens: &Tokens) -> Result<Tokens, Memory>
     requires { length tokens.now.list < 2 ^ 31 }
     ensures kept { IfOk result (λ kept. Keeps at_start tokens.now.list kept.list) }
@@ -295,10 +271,12 @@ pub fn kept(alloc: Global, tokens: &Tokens) -> Result<Tokens, Memory>
         depth: 0,
         after: false,
     };
+    let widths = parens_from_each(alloc, read)?;
+    let widths = widths.as_slice();
     let mut at = 0;
     while at < read.len() {
         let first = &read[at];
-        let end = at + mood.size(alloc, first, &read[at + 1..])?;
+        let end = at + mood.size(first, &widths[at + 1..]);
         put_kept(alloc, &mut list, first, &read[at + 1..end])?;
         mood = mood.advance(&read[at..end]);
         at = end;

@@ -3,6 +3,7 @@
 #![tactic(auto)]
 
 mod bytes;
+mod closing;
 mod directive;
 mod effect;
 mod keeping;

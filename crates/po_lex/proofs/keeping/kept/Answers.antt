@@ -1,26 +1,30 @@
 use Rattle.std.proofs.Common.{◌≡◌, ℕ, ◌+◌, ◌-◌, ◌<◌, ◌≤◌, List, [], ◌∷◌, ◌++◌, length, take, drop, arith, sym, ap, ◌∙◌, subst, append-nil}
-use Rattle.std.proofs.lemmas.List.{drop_more, drop_all, length-drop, length-take, take_all}
+use Rattle.std.proofs.lemmas.List.{drop_more, drop_all, length-take}
 use Rattle.po_base.specs.declared.token.Token.{Token}
 use Rattle.po_lex.specs.Keeping.{Keeps, nothing, advance, size, kept_of, at_start}
 use Rattle.po_lex.specs.declared.keeping.Mood.{Mood}
 use Rattle.po_lex.proofs.Remains.{keeps_on, kept_whole}
+use Rattle.po_lex.proofs.Widths.{judged_within}
 use Rattle.po_lex.proofs.keeping.kept.Goals as goal
+
+pub slice_bounds-put_kept-end : goal.slice_bounds-put_kept-end
+slice_bounds-put_kept-end c =
+    let judged = judged_within c.as_slice-read.result.now c.as_slice-widths.result.now c.loop-at.at c.size.result c.loop-at.mood c.index-read-at.result c.loop-at-test.true
+    (c.as_slice-widths.ensures ∙ c.in_ok-widths.ensures.told) c.size.ensures.value in
+    omega (arith, judged.1)
 
 pub loop-at-preserved : goal.loop-at-preserved
 loop-at-preserved c =
     let read : List Token = c.as_slice-read.result.now in
     let at : ℕ = c.loop-at.at in
-    let n : ℕ = c.in_ok-end.field-0 in
+    let n : ℕ = c.size.result in
     let t : Token = c.index-read-at.result in
     let us : List Token = drop (at + 1) read in
     let m : Mood = c.loop-at.mood in
-    let left : length us ≡ length read - (at + 1) = length-drop (at + 1) read in
-    let all : take (length read - (at + 1)) us ≡ us = take_all (length read - (at + 1)) us (omega arith) in
-    let seen : length (take (length read - (at + 1)) us) ≡ length us = ap length all in
-    let ends : (0 < n) × (n ≤ length (take (length read - (at + 1)) us) + 1) = c.in_ok-end.ensures.within in
-    let some : 0 < n = ends.0 in
-    let room : at + n ≤ length read = omega (arith, ends.1, seen, left, c.loop-at-test.true) in
-    let sized : n ≡ size m t us = c.in_ok-end.ensures.value ∙ ap (size m t) all in
+    let some : 0 < n = c.size.ensures.some in
+    let judged = judged_within read c.as_slice-widths.result.now at n m t c.loop-at-test.true (c.as_slice-widths.ensures ∙ c.in_ok-widths.ensures.told) c.size.ensures.value in
+    let sized : n ≡ size m t us = judged.0 in
+    let room : at + n ≤ length read = judged.1 in
     let held : List Token = take (at + n - (at + 1)) us in
     let whole = kept_whole read at n some room in
     let put : c.put_kept.new.list ≡ c.loop-at.list ++ kept_of (length held + 1) t (held ++ drop (at + n) read) = c.in_ok-put_kept.ensures (drop (at + n) read) in
