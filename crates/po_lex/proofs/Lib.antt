@@ -6,4 +6,5 @@ mod Walks
 mod Remains
 mod Widths
 mod Unique
+mod Divisions
 mod Longest

@@ -3,7 +3,7 @@ ghost use Rattle.po_base.specs.declared.token.Token.{Token as Placed};
 ghost use Rattle.po_base.specs.declared.token.Tokens.{Tokens as Lists};
 ghost use Rattle.po_lex.specs.Division.{Part, Divides, AreTokens, Fails, HasTooMany, Stands, start};
 ghost use Rattle.po_lex.specs.Keeping.{Keeps};
-ghost use Rattle.po_lex.specs.Pieces.{ArePieces};
+ghost use Rattle.po_lex.specs.Pieces.{ArePieces, IsMisshapen};
 ghost use Rattle.po_lex.specs.Laws.{StandInOrder, Cover};
 ghost use Rattle.po_lex.specs.declared.keeping.Mood.{Mood as Before};
 ghost use Rattle.po_lex.specs.declared.shape.Piece.{Piece as Range};
@@ -44,6 +44,21 @@ pub fn texts_stand_in_order()
 /// Of the tokens of a file just one list is kept.
 pub fn one_kept_list()
     ensures { (before : Before) (tokens xs ys : Items Placed) → Keeps before tokens xs → Keeps before tokens ys → xs ≡ ys }
+{}
+
+/// Tokens have one list of pieces at most.
+pub fn one_piece_list()
+    ensures { (tokens : Items Placed) (xs ys : Items Range) → ArePieces tokens xs → ArePieces tokens ys → xs ≡ ys }
+{}
+
+/// Tokens that have pieces don't fail to.
+pub fn pieces_or_failure()
+    ensures { (tokens : Items Placed) (xs : Items Range) (line : ℕ) → ArePieces tokens xs → IsMisshapen tokens line → ⊥ }
+{}
+
+/// Tokens fail to have pieces on one line.
+pub fn one_shape_failure()
+    ensures { (tokens : Items Placed) (l m : ℕ) → IsMisshapen tokens l → IsMisshapen tokens m → l ≡ m }
 {}
 
 /// The pieces of tokens cover them without a gap, and none is empty.
