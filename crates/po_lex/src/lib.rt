@@ -12,6 +12,8 @@ mod lead;
 mod lexing;
 mod part;
 mod place;
+#[cfg(test)]
+mod preprocessed;
 mod row;
 mod shape;
 mod sign;

@@ -1,5 +1,6 @@
 ghost use Rattle.std.specs.Prelude.{◌≤◌, ◌^◌, length, IfOk};
 
+use crate::preprocessed::LONGEST;
 use crate::{LexFail, Piece, ShapeFail, kept, pieces, tokens};
 use po_base::{List, Text, Token, Tokens};
 use std::alloc::Global;
@@ -28,9 +29,15 @@ fn spaced(rt: &impl Abort, alloc: Global, list: &List<Token>) -> Vec<u8> {
 // Each text is what the rules of longest match, blanks, comments and directives give by hand.
 #[test]
 fn bytes_divide_into_longest_parts(rt: HostRuntime) {
-    let cases: [(&[u8], &[u8]); 27] = [
+    let cases: [(&[u8], &[u8]); 30] = [
         (b"", b""),
         (b"a+++b", b"a ++ + b "),
+        (
+            b"a---b-->c>>>=d<<<=e&&&f....g|||h===i!==j",
+            b"a -- - b -- > c >> >= d << <= e && & f ... . g || | h == = i != = j ",
+        ),
+        (b"+\\\n+1\\\n2 \\\n", b"+ + 1 2 "),
+        (b"a//", b"a "),
         (b"x>>=y...->--<<=z", b"x >>= y ... -> -- <<= z "),
         (b"..a", b". . a "),
         (b".5e+3-1.e2.x", b".5e+3 - 1.e2.x "),
@@ -74,12 +81,13 @@ fn bytes_divide_into_longest_parts(rt: HostRuntime) {
 
 #[test]
 fn a_file_fails_where_no_part_stands(rt: HostRuntime) {
-    let lex: [(&[u8], u32); 17] = [
+    let lex: [(&[u8], u32); 18] = [
         (b"/*", 1),
         (b"/* a *\n/", 1),
         (b"\"ab", 1),
         (b"'a", 1),
         (b"'a\\'", 1),
+        (b"\"a\\\"", 1),
         (b"\x00", 1),
         (b"\x80", 1),
         (b"a\n\xff", 2),
@@ -153,10 +161,10 @@ fn line_markers_set_names_and_lines(rt: HostRuntime) {
     }
 }
 
-// The last case is cut from what gcc 13 makes of a file that includes <stdio.h>, <stdlib.h> and <string.h>.
 #[test]
 fn words_of_the_compiler_are_dropped(rt: HostRuntime) {
-    let cases: [(&[u8], &[u8]); 13] = [
+    let cases: [(&[u8], &[u8]); 16] = [
+        (b"", b""),
         (b"__extension__ typedef int a;", b"typedef int a ; "),
         (
             b"int f(int)__attribute__((nothrow,f(1)));",
@@ -191,8 +199,16 @@ fn words_of_the_compiler_are_dropped(rt: HostRuntime) {
             b"__const__ asm __attribute ( a ) b ",
         ),
         (
-            b"# 631 \"/usr/include/stdio.h\" 3 4\nextern int sscanf (const char *__restrict __s, const char *__restrict __format, ...) __asm__ (\"\" \"__isoc99_sscanf\") __attribute__ ((__nothrow__ , __leaf__))\n\n                      ;\n# 1555 \"/usr/include/stdlib.h\" 3 4\nextern void *malloc (size_t __size) __attribute__ ((__nothrow__ , __leaf__)) __attribute__ ((__malloc__))\n     __attribute__ ((__alloc_size__ (1))) ;\n",
-            b"extern int sscanf ( const char * __s , const char * __format , ... ) ; extern void * malloc ( size_t __size ) ; ",
+            b"__attribute__((__attribute__((a",
+            b"__attribute__ ( ( __attribute__ ( ( a ",
+        ),
+        (
+            b"__attribute__((__attribute__((a))b",
+            b"__attribute__ ( ( b ",
+        ),
+        (
+            b"__attribute__((a]__attribute__((b))c))",
+            b"__attribute__ ( ( a ] c ) ) ",
         ),
     ];
     for (bytes, wanted) in cases {
@@ -225,8 +241,10 @@ fn tokens_divide_into_pieces(rt: HostRuntime) {
         piece(13, 16, false),
     ];
     let bodies = [piece(0, 2, true), piece(2, 4, true)];
-    let cases: [(&[u8], &[Piece]); 4] = [
+    let cases: [(&[u8], &[Piece]); 6] = [
         (b"", &[]),
+        (b"#pragma once", &[]),
+        (b"# 0 \"x\"", &[]),
         (b"int x;struct S{int a;};int f(void){return;};", &definition),
         (b"int*p=(int[]){1};int y;", &literal),
         (b"{}{}", &bodies),
@@ -252,4 +270,64 @@ fn tokens_divide_into_pieces(rt: HostRuntime) {
         let fail = pieces(rt.alloc(), &found).err();
         assert!(rt; fail == Some(ShapeFail::Shape { line }), "{bytes:?}");
     }
+}
+
+/// The lines of the tokens with this text that a file of this name has.
+fn lines_of(rt: &impl Abort, alloc: Global, tokens: &Tokens, name: &[u8], text: &[u8]) -> Vec<u32> {
+    let names = tokens.names.as_slice();
+    let mut lines = Vec::new(alloc);
+    for token in tokens.list.as_slice() {
+        let file = token.file as usize;
+        assert!(rt; file < names.len());
+        if token.text.bytes() == text && names[file].bytes() == name {
+            lines.push(token.line).expect(rt, "memory");
+        }
+    }
+    lines
+}
+
+// Each number is that of a few lines of Python over the same text: markers and tokens found by regular expressions,
+// attributes and `__asm__` cut out by others, pieces by a count of brackets. The lines are read off `data/longest.c`.
+#[test]
+fn what_gcc_writes_divides(rt: HostRuntime) {
+    let found = read(&rt, rt.alloc(), LONGEST).expect(&rt, "tokens");
+    assert!(rt; found.list.len() == 8596);
+    let names: [&[u8]; 6] = [
+        b"main.c",
+        b"longest.c",
+        b"<built-in>",
+        b"<command-line>",
+        b"longest.c",
+        b"/usr/include/stdio.h",
+    ];
+    assert!(rt; found.names.len() == 1 + 275);
+    for at in 0..names.len() {
+        assert!(rt;
+            found.names.as_slice()[at].bytes() == names[at],
+            "name {at}"
+        );
+    }
+    let left = kept(rt.alloc(), &found).expect(&rt, "memory");
+    assert!(rt; left.list.len() == 5076);
+    let lines: [(&[u8], &[u32]); 6] = [
+        (b"longest", &[6, 20]),
+        (b"main", &[16]),
+        (b"best", &[8, 11, 12, 13]),
+        (b"exit", &[19]),
+        (b"0", &[10, 21]),
+        (b"}", &[14, 22]),
+    ];
+    for (text, wanted) in lines {
+        let found = lines_of(&rt, rt.alloc(), &left, b"longest.c", text);
+        assert!(rt; found.as_slice() == wanted, "{text:?}");
+    }
+    let list = pieces(rt.alloc(), &left).expect(&rt, "pieces");
+    assert!(rt; list.len() == 419);
+    let mut bodies = 0;
+    for piece in list.as_slice() {
+        if piece.body {
+            bodies += 1;
+        }
+    }
+    assert!(rt; bodies == 8);
 }
