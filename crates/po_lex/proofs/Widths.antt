@@ -1,7 +1,8 @@
 -- The tokens of a group end at the closing bracket that is met on the way back.
-use Rattle.std.proofs.Common.{◌≡◌, ℕ, zero, suc, ◌+◌, ◌-◌, ◌<◌, ◌≤◌, Bool, true, false, cond, List, [], ◌∷◌, length, take, drop, set, get_or, arith, sym, ap, refl, ◌∙◌, subst}
+use Rattle.std.proofs.Common.{◌≡◌, ℕ, zero, suc, ◌+◌, ◌-◌, ◌<◌, ◌≤◌, Bool, true, false, cond, List, [], ◌∷◌, length, take, drop, set, get_or, arith, sym, ap, refl, ◌∙◌, subst, inl, inr, ne_eqb}
 use Rattle.std.specs.Prelude.{Option, Some, None, ◌==◌, ◌&&◌, not, slice_index}
-use Rattle.std.proofs.lemmas.Bool.{eqb-true}
+use Rattle.std.proofs.lemmas.Bool.{eqb-true, eq-eqb}
+use Rattle.std.proofs.lemmas.Bool.Decides.{eqb_tells}
 use Rattle.std.proofs.lemmas.List.{drop_more, drop-set, length-drop, take_all}
 use Rattle.po_base.specs.declared.token.Token.{Token}
 use Rattle.po_lex.specs.Brackets.{State, outset, step, behind_mark, mark, closer, is_closer, pop}
@@ -87,15 +88,21 @@ group_ends (t ∷ ts) = λ n begins x xs.
           ]
     ]
 
+either_way : (a b : ℕ) → (a == b) ≡ (b == a)
+either_way a b = elim (eqb_tells a b) [
+  | inl h ↦ h.0 ∙ sym (eq-eqb b a (sym h.1))
+  | inr h ↦ h.0 ∙ sym (ne_eqb b a (λ q. h.1 (sym q)))
+]
+
 -- the parentheses that a `(` opens
 from_paren : (n begun : ℕ) (line : ℕ) (body : Bool) (cs : List Closing) →
     Ends n (1 + begun) (meets (record { close = 41; line = line; body = body } ∷ []) cs) → n ≡ width 40 begun cs
 from_paren n begun line body [] h = h
 from_paren n begun line body (c ∷ cs) h =
-    elim (41 == c.byte) as (λ b. Ends n (1 + begun) (cond b (Some c.behind) None) → n ≡ cond b (begun + 1 - c.behind) 0) [
+    rw (either_way c.byte 41) (elim (41 == c.byte) as (λ b. Ends n (1 + begun) (cond b (Some c.behind) None) → n ≡ cond b (begun + 1 - c.behind) 0) [
       | true ↦ (λ q. omega (arith, q))
       | false ↦ (λ q. q)
-    ] h
+    ] h)
 
 by_paren : (t : Token) (ts : List Token) → mark t ≡ 40 → group 0 (Some outset) (t ∷ ts) ≡ width (mark t) (length ts) (closings ts)
 by_paren t ts q =

@@ -31,4 +31,4 @@ closings (t ∷ ts) = met (mark t) (length ts) (closings ts)
 -- where it opens none that are closed.
 abbrev pub width : ℕ → ℕ → List Closing → ℕ
 width byte n [] = 0
-width byte n (c ∷ cs) = cond ((byte == 40) && (41 == c.byte)) (n + 1 - c.behind) 0
+width byte n (c ∷ cs) = cond ((byte == 40) && (c.byte == 41)) (n + 1 - c.behind) 0

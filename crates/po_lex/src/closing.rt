@@ -5,7 +5,7 @@ use crate::walk::{closer, is_closer, mark};
 use po_base::{List, Memory, Token};
 use std::alloc::Global;
 
-/// A closing bracket whose opening one doesn't stand among the tokens behind.
+/// A closing bracket that none of the tokens seen so far opens.
 #[derive(Clone, Copy, Debug)]
 pub(crate) struct Closing {
     /// The byte of the bracket.
@@ -50,7 +50,7 @@ fn width(closings: &List<Closing>, byte: u8, behind: u32) -> u32
         return 0;
     }
     let nearest = closings[closings.len() - 1];
-    if byte == b'(' && b')' == nearest.byte {
+    if byte == b'(' && nearest.byte == b')' {
         (behind + 1).saturating_sub(nearest.behind)
     } else {
         0
