@@ -16,8 +16,8 @@ use Rattle.po_core.specs.declared.event.Mark.{Mark}
 use Rattle.po_core.specs.declared.event.Mark.TheVariants.{Untaken, Taken}
 use Rattle.po_core.specs.declared.obl.Obl.{Obl}
 use Rattle.po_core.specs.declared.obl.Verdict.{Verdict}
-use Rattle.po_core.proofs.Lists.{has}
-use Rattle.po_core.proofs.Members.{settled_taken, taken_untaken}
+use Rattle.po_core.specs.Lists.{has}
+use Rattle.po_core.specs.Marks.{settled_taken, taken_untaken}
 use Rattle.po_ledger.specs.Calls.{Does}
 use Rattle.po_ledger.specs.Parts.{IsRemarked, TakesFrom}
 use Rattle.po_ledger.specs.View.{LedgerView, IsKept, IsRoomFor, AreTables}

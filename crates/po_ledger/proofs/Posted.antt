@@ -19,8 +19,8 @@ use Rattle.po_core.specs.declared.obl.Cause.{Cause}
 use Rattle.po_core.specs.declared.obl.Cause.TheVariants.{Support}
 use Rattle.po_core.specs.declared.obl.Obl.{Obl}
 use Rattle.po_core.specs.declared.obl.Verdict.TheVariants.{Delegated}
-use Rattle.po_core.proofs.Lists.{has, contains, contains_map, has_from_map}
-use Rattle.po_core.proofs.Members.{settled_untaken, taken_untaken}
+use Rattle.po_core.specs.Lists.{has, contains, contains_map, has_from_map}
+use Rattle.po_core.specs.Marks.{settled_untaken, taken_untaken}
 use Rattle.po_ledger.specs.Calls.{Does, CanPost, PostsItem, IsOpenAt, IsItemAt}
 use Rattle.po_ledger.specs.Parts.{AddsEach, AddsItem, supports_of}
 use Rattle.po_ledger.specs.View.{LedgerView, TicketView, IsKept, view_of}

@@ -16,8 +16,8 @@ use Rattle.po_core.specs.declared.event.Mark.{Mark}
 use Rattle.po_core.specs.declared.event.Mark.TheVariants.{Untaken, Taken, Settled}
 use Rattle.po_core.specs.declared.obl.Obl.{Obl}
 use Rattle.po_core.specs.declared.obl.Verdict.{Verdict}
-use Rattle.po_core.proofs.Lists.{Has, has, contains, contains_map, has_from_map}
-use Rattle.po_core.proofs.Orderly.{same_hand}
+use Rattle.po_core.specs.Lists.{Has, has, contains, contains_map, has_from_map}
+use Rattle.po_core.specs.Marks.{same_hand}
 use Rattle.po_ledger.specs.Calls.{Does, CanSettle, SettlesItem, CanGive, IsOpenAt, IsItemAt}
 use Rattle.po_ledger.specs.Parts.{IsRemarked}
 use Rattle.po_ledger.specs.View.{LedgerView, TicketView, IsKept, AreTables, Fits, items_of}

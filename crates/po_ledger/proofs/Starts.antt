@@ -17,8 +17,8 @@ use Rattle.po_core.specs.declared.event.Mark.TheVariants.{Untaken, Taken}
 use Rattle.po_core.specs.declared.obl.Cause.{Cause}
 use Rattle.po_core.specs.declared.obl.Cause.TheVariants.{Primary}
 use Rattle.po_core.specs.declared.obl.Obl.{Obl}
-use Rattle.po_core.proofs.Lists.{Has, has, contains, contains_map, has_from_map}
-use Rattle.po_core.proofs.Members.{taken_untaken}
+use Rattle.po_core.specs.Lists.{Has, has, contains, contains_map, has_from_map}
+use Rattle.po_core.specs.Marks.{taken_untaken}
 use Rattle.po_ledger.specs.Calls.{IsNew}
 use Rattle.po_ledger.specs.Parts.{AddsEach, HandAt, NoneTakeable, primaries_of, primaries_below}
 use Rattle.po_ledger.specs.View.{LedgerView, IsKept}
