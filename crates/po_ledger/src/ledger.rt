@@ -6,20 +6,25 @@ ghost use Rattle.po_core.specs.declared.event.Event.TheVariants.{Take, Post, Set
 ghost use Rattle.po_core.specs.declared.obl.Obl.{Obl};
 ghost use Rattle.po_core.specs.declared.obl.Verdict.TheVariants.{Delegated};
 ghost use Rattle.po_ledger.specs.Calls.{IsNew, Does, HandsOut, CanPost, PostsItem, CanSettle, SettlesItem, CanGive};
-ghost use Rattle.po_ledger.specs.Answers.{Answers};
+ghost use Rattle.po_core.specs.Least.{IsLeastReport};
+ghost use Rattle.po_ledger.specs.Answers.{Answers, Reports};
 ghost use Rattle.po_ledger.specs.View.{Fits, IsLedger};
 
 use crate::fitting::{hand_at, is_hand_of};
 use crate::marks::{Marks, Remark, change, first_marks};
 use crate::naming::Naming;
-use crate::next::Next;
+use crate::next::{Next, ReportFail};
 use crate::parts::{
     all_open, any_held, append, empty_shelves, extend, is_held, make_room, no_hands, set_hand,
     swap_shelf, takeable, untaken_of,
 };
+use crate::report::{ascending_assumptions, ascending_lines, held_count, is_some_left, untaken_count};
 use crate::ticket::Ticket;
 use po_base::{FileNo, FunNo, List, Memory};
-use po_core::{Event, Hand, Journal, Obl, Rulebook, Verdict, legal_lists_are_orderly};
+use po_core::{
+    Event, Hand, Journal, Obl, Report, Rulebook, Verdict, legal_lists_are_orderly,
+    quiet_lists_are_least,
+};
 use std::alloc::Global;
 use std::marker::{Model, PhantomData};
 
@@ -163,6 +168,32 @@ impl<'r, R: Rulebook, J: Naming<R::Pred, R::Rule, R::Table>> Ledger<'r, R, J> {
             Some(_) => false,
             None => true,
         }
+    }
+
+    /// The least report of the rulebook, where all is done. `NotQuiet` comes where it isn't, with the number of files
+    /// that are held and of obligations that are untaken. The ledger stays as it is; its lists are copied for the
+    /// report alone. Time: the number of files, and that of sorting the known obligations.
+    pub fn report(&self, alloc: Global) -> Result<Report<R::Pred, R::Rule>, ReportFail>
+        ensures { Reports J.book R.Pred.cmp self.now.state result }
+    {
+        let held = held_count(self.hands.as_slice(), self.book.files());
+        let untaken = untaken_count(self.marks.as_slice());
+        if is_some_left(held, untaken) {
+            return Err(ReportFail::NotQuiet { held, untaken });
+        }
+        Ok(self.least_report(alloc)?)
+    }
+
+    /// The least report, of a ledger that is quiet.
+    fn least_report(&self, alloc: Global) -> Result<Report<R::Pred, R::Rule>, Memory>
+        requires { IsQuiet self.now.state }
+        ensures { IfOk result (IsLeastReport R.Pred.cmp J.book) }
+    {
+        quiet_lists_are_least(self.book);
+        legal_lists_are_orderly(self.book);
+        let lines = ascending_lines(alloc, self.book, self.marks.as_slice())?;
+        let assumptions = ascending_assumptions(alloc, self.book, self.assumed.as_slice())?;
+        Ok(Report { lines, assumptions })
     }
 
     /// Takes a file that can be taken.

@@ -88,7 +88,7 @@ fn takeable_file<R: Rulebook>(
 }
 
 /// Whether a mark says that an obligation is untaken.
-fn is_untaken<P: Copy, N: Copy>(mark: Mark<P, N>) -> bool
+pub(crate) fn is_untaken<P: Copy, N: Copy>(mark: Mark<P, N>) -> bool
     ensures { IsTrue result ↔ (mark ≡ Untaken) }
 {
     match mark {
