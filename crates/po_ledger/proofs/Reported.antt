@@ -57,7 +57,7 @@ module _ {P N : Type 0} (l now : LedgerView P N) (q : l ≡ now) (hands : List (
   }
     where
       one_of : (a b : ℕ) → 0 < a + b → (0 < a) ⊎ (0 < b)
-      one_of zero b h = inr h
+      one_of zero b h = inr (omega arith)
       one_of (suc a) b h = inl (omega arith)
 
   pub is_quiet : ¬ (0 < held + untaken) → IsQuiet now.state
