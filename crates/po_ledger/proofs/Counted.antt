@@ -74,10 +74,10 @@ module _ {P N : Type 0} (marks : List (Obl P × Mark P N)) where
     untaken_here apart is =
         let entry : ◌≡◌ {A = Obl P × Mark P N} e (e.0, Untaken) = ap (λ (z : Mark P N). let y : Obl P × Mark P N = (e.0, z) in y) is in
         counts_more (IsUntakenBefore i) (IsUntakenBefore (i + 1)) e.0 k c
-            (λ h. key_once marks i e apart l q Untaken (has (take i marks) (e.0, Untaken) h))
-            (subst (λ (z : Obl P × Mark P N). Contains (take (i + 1) marks) z) entry (front_last marks i e l q))
-            (λ o h. front_more marks i e (o, Untaken) l q h)
-            (λ o h. elim (front_cases marks i e (o, Untaken) l q h) [ inl x ↦ inl x | inr x ↦ inr (ap (λ (z : Obl P × Mark P N). z.0) (sym x)) ])
+        (λ h. key_once marks i e apart l q Untaken (has (take i marks) (e.0, Untaken) h))
+        (subst (λ (z : Obl P × Mark P N). Contains (take (i + 1) marks) z) entry (front_last marks i e l q))
+        (λ o h. front_more marks i e (o, Untaken) l q h)
+        (λ o h. elim (front_cases marks i e (o, Untaken) l q h) [ inl x ↦ inl x | inr x ↦ inr (ap (λ (z : Obl P × Mark P N). z.0) (sym x)) ])
 
     pub other_here : ¬ (e.1 ≡ Untaken) → Counts (IsUntakenBefore (i + 1)) k
     other_here other = counts_same (IsUntakenBefore i) (IsUntakenBefore (i + 1)) k

@@ -18,7 +18,9 @@ use crate::parts::{
     all_open, any_held, append, empty_shelves, extend, is_held, make_room, no_hands, set_hand,
     swap_shelf, takeable, untaken_of,
 };
-use crate::report::{ascending_assumptions, ascending_lines, held_count, is_some_left, untaken_count};
+use crate::report::{
+    ascending_assumptions, ascending_lines, held_count, is_some_left, untaken_count,
+};
 use crate::ticket::Ticket;
 use po_base::{FileNo, FunNo, List, Memory};
 use po_core::{
