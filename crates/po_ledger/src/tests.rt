@@ -123,25 +123,36 @@ fn the_least_report_is_listed_in_order(rt: HostRuntime) -> Result<(), Fail> {
     Ok(())
 }
 
-// Where memory is wanting in a call (`rt try --test --fail-alloc 1..` has it so at each place), the ledger is as it was
-// before the call.
+// Where memory is wanting in a call (`rt try --test --fail-alloc N` has it so at the place N), the ledger is as it was.
 #[test]
 fn want_of_memory_changes_nothing(rt: HostRuntime) -> Result<(), Fail> {
     let mut ledger: SampleLedger<'_> = Ledger::new(rt.alloc(), &Sample)?;
-    let taken = ledger.take(rt.alloc(), 1);
-    if let Err(Memory) = taken {
-        assert_eq!(rt; left(rt.alloc(), &ledger), Some((0, 2)));
-        assert!(rt; !ledger.held(FileNo(0)));
-        assert_eq!(rt; ledger.close().len(), 0);
-        return Ok(());
+    match ledger.take(rt.alloc(), 1) {
+        Ok(_) => {
+            assert_eq!(rt; left(rt.alloc(), &ledger), Some((1, 0)));
+        }
+        Err(Memory) => {
+            assert_eq!(rt; left(rt.alloc(), &ledger), Some((0, 2)));
+            assert!(rt; !ledger.held(FileNo(0)));
+            assert_eq!(rt; ledger.close().len(), 0);
+        }
     }
-    let mut ticket = ticket_of(taken?).expect(&rt, "a ticket");
-    let posted = ledger.post(rt.alloc(), &mut ticket, 0, &7);
-    assert!(rt; ledger.fits(&ticket));
-    let untaken = match posted {
-        Ok(()) => 2,
-        Err(Memory) => 0,
-    };
-    assert_eq!(rt; left(rt.alloc(), &ledger), Some((1, untaken)));
+    Ok(())
+}
+
+// Where memory is wanting while one worker drains a ledger, nobody holds a file, and the rest can be done later.
+#[test]
+fn the_rest_is_done_later(rt: HostRuntime) -> Result<(), Fail> {
+    let mut ledger: SampleLedger<'_> = Ledger::new(rt.alloc(), &Sample)?;
+    assert!(rt; !ledger.held(FileNo(0)) && !ledger.held(FileNo(1)));
+    match solve_alone(rt.alloc(), &mut ledger) {
+        Ok(()) => {}
+        Err(Memory) => {
+            assert!(rt; !ledger.held(FileNo(0)) && !ledger.held(FileNo(1)));
+            solve_alone(rt.alloc(), &mut ledger)?;
+        }
+    }
+    let report = ledger.report(rt.alloc()).ok().expect(&rt, "a report");
+    assert_eq!(rt; (report.lines.len(), report.assumptions.len()), (5, 2));
     Ok(())
 }
