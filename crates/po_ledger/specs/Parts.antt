@@ -22,6 +22,10 @@ use Rattle.po_ledger.specs.declared.marks.Remark.TheVariants as r
 abbrev pub HasKey : {P N : Type 0} → List (Obl P × Mark P N) → Obl P → Type 0
 HasKey {P} {N} marks o = (m : Mark P N) × Contains marks (o, m)
 
+-- the mark at a place is one of the obligation
+abbrev pub IsMarkAt : {P N : Type 0} → List (Obl P × Mark P N) → ℕ → Obl P → Type 0
+IsMarkAt {P} {N} marks at o = (m : Mark P N) × (slice_get marks at ≡ Some (o, m))
+
 -- the obligation is there already, or is new at the end and untaken
 abbrev pub AddsUntaken : {P N : Type 0} → List (Obl P × Mark P N) → List (Obl P × Mark P N) → Obl P → Type 0
 AddsUntaken old new o = (HasKey old o × (new ≡ old)) ⊎ ((¬ HasKey old o) × (new ≡ old ++ (o, Untaken) ∷ []))

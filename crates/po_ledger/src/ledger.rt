@@ -11,12 +11,12 @@ ghost use Rattle.po_ledger.specs.Answers.{Answers, Reports};
 ghost use Rattle.po_ledger.specs.View.{Fits, IsLedger};
 
 use crate::fitting::{hand_at, is_hand_of};
-use crate::marks::{Marks, Remark, change, first_marks};
+use crate::marks::{Marks, Remark, change, first_marks, settle_mark};
 use crate::naming::Naming;
 use crate::next::{Next, ReportFail};
 use crate::parts::{
     all_open, any_held, append, empty_shelves, extend, is_held, make_room, no_hands, set_hand,
-    swap_shelf, takeable, untaken_of,
+    swap_shelf, takeable, untaken_of, untaken_places,
 };
 use crate::report::{
     ascending_assumptions, ascending_lines, held_count, is_some_left, untaken_count,
@@ -207,6 +207,7 @@ impl<'r, R: Rulebook, J: Naming<R::Pred, R::Rule, R::Table>> Ledger<'r, R, J> {
         legal_lists_are_orderly(self.book);
         let items = untaken_of(alloc, self.book, self.marks.as_slice(), file)?;
         let hand = all_open(alloc, items.as_slice())?;
+        let places = untaken_places(alloc, self.book, self.marks.as_slice(), file)?;
         make_room(&mut self.journal, items.len(), 3)?;
         change(self.book, &mut self.marks, &Remark::Take(file));
         append(&mut self.journal, Event::Take { worker, file });
@@ -216,6 +217,7 @@ impl<'r, R: Rulebook, J: Naming<R::Pred, R::Rule, R::Table>> Ledger<'r, R, J> {
             worker,
             file,
             hand,
+            places,
             tables,
             named: PhantomData,
         })
@@ -277,7 +279,7 @@ impl<'r, R: Rulebook, J: Naming<R::Pred, R::Rule, R::Table>> Ledger<'r, R, J> {
     }
 
     /// Settles an item of a ticket with its verdict; where that delegates, the predicate is assumed already. It
-    /// takes no memory. Time: the number of known obligations.
+    /// takes no memory. Time: constant, since the ticket keeps the place of the item's mark.
     pub fn settle(&mut self, t: &mut Ticket<R, J>, k: usize, v: Verdict<R::Pred, R::Rule>)
         requires within { k < length t.old.hand }
         requires can { CanSettle J.book self.old.state t.old k v }
@@ -286,7 +288,7 @@ impl<'r, R: Rulebook, J: Naming<R::Pred, R::Rule, R::Table>> Ledger<'r, R, J> {
         legal_lists_are_orderly(self.book);
         let obl = *t.item(k);
         let file = t.file();
-        change(self.book, &mut self.marks, &Remark::Settle(obl, v));
+        settle_mark(self.book, &mut self.marks, t.mark_hint(k), obl, v);
         append(
             &mut self.journal,
             Event::Settle {
