@@ -1,12 +1,12 @@
 -- The report of a ledger, and how much is left where there is none.
-use Rattle.std.proofs.Common.{◌≡◌, ◌⊎◌, ℕ, zero, suc, ◌+◌, ◌<◌, List, [], ◌∷◌, length, map, refl, sym, ◌∙◌, ap, subst, inl, inr, arith}
-use Rattle.std.specs.Prelude.{◌↔◌, Option}
+use Rattle.std.proofs.Common.{◌≡◌, ◌⊎◌, ℕ, zero, suc, ◌+◌, ◌<◌, List, [], ◌∷◌, length, refl, sym, ◌∙◌, ap, subst, inl, inr, arith}
+use Rattle.std.specs.Prelude.{Option}
 use Rattle.std.specs.List.{Contains, AllPairs}
 use Rattle.std.specs.declared.cmp.Ordering.{Ordering}
 use Rattle.std.specs.declared.cmp.Ordering.TheVariants.{Less}
 use Rattle.po_base.specs.declared.numbers.FunNo.{FunNo}
 use Rattle.po_core.specs.Book.{Book}
-use Rattle.po_core.specs.Core.{CoreState, IsKnown, IsQuiet, IsSettled, Replays}
+use Rattle.po_core.specs.Core.{CoreState, IsQuiet, IsSettled, Replays}
 use Rattle.po_core.specs.Least.{IsLeastReport, IsReported}
 use Rattle.po_core.specs.Lists.{contains}
 use Rattle.po_core.specs.Marks.{same_verdict}
@@ -18,7 +18,6 @@ use Rattle.po_core.specs.declared.event.Mark.{Mark}
 use Rattle.po_core.specs.declared.event.Mark.TheVariants.{Untaken, Settled}
 use Rattle.po_core.specs.declared.obl.Obl.{Obl}
 use Rattle.po_core.specs.declared.obl.Verdict.{Verdict}
-use Rattle.po_core.specs.declared.report.Report.{Report}
 use Rattle.po_ledger.specs.Calls.{Counts, IsBusy}
 use Rattle.po_ledger.specs.Parts.{AreSame, HandAt, ListsVerdicts}
 use Rattle.po_ledger.specs.View.{LedgerView, IsKept}

@@ -1,6 +1,3 @@
-use Rattle.std.proofs.Common.{sym, ◌∙◌, subst, get_or}
-use Rattle.std.proofs.lemmas.List.Elements.{Contains-get_or}
-use Rattle.po_ledger.specs.Parts.{HasKey}
 use Rattle.po_ledger.proofs.Lists.{read_in}
 use Rattle.po_ledger.proofs.Remarked.{settled_at}
 use Rattle.po_ledger.proofs.marks.settle_at.Goals as goal
