@@ -1,5 +1,5 @@
 -- No legal list settles more obligations than there can be.
-use Rattle.std.proofs.Common.{◌≡◌, ◌⊎◌, suc, ◌≤◌, List, [], ◌∷◌, length, refl, sym, ◌∙◌, ap, subst, inl, inr, arith}
+use Rattle.std.proofs.Common.{◌≡◌, ◌≤◌, List, [], ◌∷◌, length, refl, sym, ◌∙◌, subst, inl, inr, arith}
 use Rattle.std.specs.List.{flat_map}
 use Rattle.std.specs.Prelude.{Bool}
 use Rattle.po_core.specs.Book.{Book, IsBook}
@@ -10,10 +10,10 @@ use Rattle.po_core.specs.declared.event.Event.TheVariants.{Take, Post, Settle, G
 use Rattle.po_core.specs.declared.event.Mark.TheVariants.{Taken, Settled}
 use Rattle.po_core.specs.declared.obl.Obl.{Obl}
 use Rattle.po_core.specs.declared.obl.Verdict.{Verdict}
-use Rattle.po_core.proofs.Members.{settled_taken}
+use Rattle.po_core.specs.Marks.{settled_taken}
 use Rattle.po_core.proofs.Once.{stays_settled, runs_settled}
 use Rattle.po_core.proofs.Orderly.{Agrees, agrees_step, agrees_at_start}
-use Rattle.po_core.proofs.Lists.{Has, has, apart_within}
+use Rattle.po_core.specs.Lists.{Has, has, apart_within}
 use Rattle.po_core.proofs.Possible.{all_possible}
 
 module _ {P N T : Type 0} (b : Book P N T) (eq : P → P → Bool) (law : IsBook eq b) where

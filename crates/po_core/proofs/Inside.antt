@@ -5,7 +5,7 @@ use Rattle.po_base.specs.declared.numbers.FunNo.{FunNo}
 use Rattle.po_core.specs.Book.{Book}
 use Rattle.po_core.specs.Least.{IsClosed, IsReported, IsNeeded}
 use Rattle.po_core.specs.Core.{CoreState, IsKnown, IsAssumed, Steps, Runs, Replays, IsStart}
-use Rattle.po_core.proofs.Members.{remarked_known}
+use Rattle.po_core.proofs.Remarks.{remarked_known}
 use Rattle.po_core.specs.declared.event.Event.{Event}
 use Rattle.po_core.specs.declared.event.Event.TheVariants.{Take, Post, Settle, Give, PutBack, Ask}
 use Rattle.po_core.specs.declared.event.Mark.TheVariants.{Taken}

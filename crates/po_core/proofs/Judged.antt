@@ -5,7 +5,8 @@ use Rattle.std.specs.Prelude.{Bool}
 use Rattle.po_core.specs.Book.{Book, IsBook, IsPrimary, IsSupport}
 use Rattle.po_core.proofs.Orderly.{Agrees, still_known, agrees_step, agrees_at_start}
 use Rattle.po_core.specs.Core.{CoreState, IsKnown, IsSettled, IsAssumed, Steps, Runs, Replays, IsStart}
-use Rattle.po_core.proofs.Members.{settled_untaken, settled_taken, same_verdict, settled_before}
+use Rattle.po_core.specs.Marks.{settled_untaken, settled_taken, same_verdict}
+use Rattle.po_core.proofs.Remarks.{settled_before}
 use Rattle.po_core.specs.declared.event.Event.{Event}
 use Rattle.po_core.specs.declared.event.Event.TheVariants.{Take, Post, Settle, Give, PutBack, Ask}
 use Rattle.po_core.specs.declared.event.Mark.TheVariants.{Untaken, Settled}

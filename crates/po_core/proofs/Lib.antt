@@ -1,5 +1,4 @@
-pub mod Lists
-pub mod Members
+pub mod Remarks
 pub mod Inside
 pub mod Possible
 pub mod Orderly

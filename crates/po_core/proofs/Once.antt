@@ -10,9 +10,11 @@ use Rattle.po_core.specs.declared.event.Event.TheVariants.{Take, Post, Settle, G
 use Rattle.po_core.specs.declared.event.Mark.TheVariants.{Taken, Settled}
 use Rattle.po_core.specs.declared.obl.Obl.{Obl}
 use Rattle.po_core.specs.declared.obl.Verdict.{Verdict}
-use Rattle.po_core.proofs.Members.{obligations_decided, decided_by, settled_taken, settled_untaken, settled_before, same_verdict}
+use Rattle.po_core.specs.Decided.{obligations_decided, decided_by}
+use Rattle.po_core.specs.Marks.{settled_taken, settled_untaken, same_verdict}
+use Rattle.po_core.proofs.Remarks.{settled_before}
 use Rattle.po_core.proofs.Orderly.{Agrees, agrees_step, agrees_runs}
-use Rattle.po_core.proofs.Lists.{has, contains}
+use Rattle.po_core.specs.Lists.{has, contains}
 
 -- the event settles the obligation
 abbrev pub SettlesNow : {P N : Type 0} → Event P N → Obl P → Type 0

@@ -1,7 +1,7 @@
 -- Hands and marks agree after every legal list of events.
 use Rattle.std.proofs.Common.{◌≡◌, ◌≢◌, ◌⊎◌, List, [], ◌∷◌, refl, sym, ◌∙◌, subst, inl, inr}
 use Rattle.std.specs.List.{Contains}
-use Rattle.std.specs.Prelude.{Bool, Some}
+use Rattle.std.specs.Prelude.{Bool}
 use Rattle.po_base.specs.declared.numbers.FileNo.{FileNo}
 use Rattle.po_core.specs.Book.{Book, IsBook, file_of_obl}
 use Rattle.po_core.specs.Core.{AreApart, CoreState, HasMark, IsKnown, IsUntaken, HasHand, IsHeld, IsInHand, KeepsHands, KeepsOtherHands, Steps, Runs, Replays, IsStart}
@@ -11,7 +11,9 @@ use Rattle.po_core.specs.declared.event.Hand.{Hand}
 use Rattle.po_core.specs.declared.event.Mark.{Mark}
 use Rattle.po_core.specs.declared.event.Mark.TheVariants.{Untaken, Taken, Settled}
 use Rattle.po_core.specs.declared.obl.Obl.{Obl}
-use Rattle.po_core.proofs.Members.{IsDecided, both_decided, files_decided, obligations_decided, decided_by, untaken_decided, taken_decided, settled_taken, settled_untaken, taken_untaken, known_remarked, one_mark_after}
+use Rattle.po_core.specs.Decided.{IsDecided, both_decided, files_decided, obligations_decided, decided_by}
+use Rattle.po_core.specs.Marks.{same_hand, untaken_decided, taken_decided, settled_taken, settled_untaken, taken_untaken}
+use Rattle.po_core.proofs.Remarks.{known_remarked, one_mark_after}
 
 -- hands that stay
 module _ {P N : Type 0} (s t : CoreState P N) where
@@ -29,9 +31,6 @@ module _ {P N : Type 0} (s t : CoreState P N) where
 
   not_freed : (F G : FileNo) (o : Obl P) → ¬ IsHeld t F → IsInHand t G o → G ≢ F
   not_freed F G o free h q = free (subst (λ (x : FileNo). IsHeld t x) q (h.0, h.1))
-
-pub same_hand : {P : Type 0} (x y : Hand P) → Some (Some x) ≡ Some (Some y) → x ≡ y
-same_hand x y q = cc
 
 module _ {P N T : Type 0} (b : Book P N T) (eq : P → P → Bool) (law : IsBook eq b) where
   one : (o p : Obl P) → IsDecided (o ≡ p)

@@ -1,7 +1,7 @@
 -- What is known is among finitely many obligations.
-use Rattle.std.proofs.Common.{◌≡◌, ℕ, zero, suc, ◌<◌, List, [], ◌∷◌, length, map, sym, ap, subst, inl, inr, ◌⊎◌, arith}
+use Rattle.std.proofs.Common.{◌≡◌, ℕ, zero, suc, ◌<◌, List, map, sym, ap, subst, inl, inr, arith}
 use Rattle.std.specs.List.{Contains, flat_map}
-use Rattle.std.specs.Prelude.{Bool, slice_index_or}
+use Rattle.std.specs.Prelude.{Bool}
 use Rattle.std.proofs.lemmas.Bool.{cases_eq}
 use Rattle.std.proofs.lemmas.List.Elements.{Contains-append_left, Contains-append_right}
 use Rattle.po_base.specs.declared.numbers.FunNo.{FunNo}
@@ -14,7 +14,7 @@ use Rattle.po_core.specs.declared.event.Event.{Event}
 use Rattle.po_core.specs.declared.obl.Cause.{Cause}
 use Rattle.po_core.specs.declared.obl.Cause.TheVariants.{Primary, Support}
 use Rattle.po_core.specs.declared.obl.Obl.{Obl}
-use Rattle.po_core.proofs.Lists.{Has, contains, has, contains_map, contains_flat_map, flat_map_has}
+use Rattle.po_core.specs.Lists.{Has, contains_map, contains_flat_map, flat_map_has}
 use Rattle.po_core.proofs.Inside.{IsInside, inside}
 
 functions_has : (n : ℕ) (f : FunNo) → f.0 < n → Has (functions_below n) f

@@ -13,10 +13,11 @@ use Rattle.po_core.specs.declared.obl.Obl.{Obl}
 use Rattle.po_core.specs.declared.obl.Verdict.{Verdict}
 use Rattle.po_core.proofs.Inside.{known_reported, assumed_needed}
 use Rattle.po_core.proofs.Judged.{IsJudged, judged}
-use Rattle.po_core.proofs.Members.{IsDecided, both_decided, functions_decided, obligations_decided, decided_by, settled_untaken}
+use Rattle.po_core.specs.Decided.{IsDecided, both_decided, functions_decided, obligations_decided, decided_by}
+use Rattle.po_core.specs.Marks.{settled_untaken}
 use Rattle.po_core.proofs.Once.{settled_once}
 use Rattle.po_core.proofs.Orderly.{Agrees, agrees, agrees_at_start}
-use Rattle.po_core.proofs.Lists.{has_from_map, Has, has, contains, contains_map}
+use Rattle.po_core.specs.Lists.{has_from_map, Has, has, contains, contains_map}
 
 -- whether a list has an item, as a test
 module _ {X : Type 0} (decided : (x y : X) → IsDecided (x ≡ y)) where

@@ -1,10 +1,11 @@
 -- The least report of a book: no worker, no order and no queue is in it.
-use Rattle.std.specs.Prelude.{◌≡◌, ◌↔◌, List, Bool, IsTrue}
+use Rattle.std.specs.Prelude.{◌≡◌, ◌↔◌, Bool, IsTrue}
 use Rattle.std.specs.List.{Contains, AllPairs}
 use Rattle.std.specs.declared.cmp.Ordering.{Ordering}
 use Rattle.std.specs.declared.cmp.Ordering.TheVariants.{Less}
 use Rattle.po_base.specs.declared.numbers.FunNo.{FunNo}
 use Rattle.po_core.specs.Book.{Book, IsPrimary, IsSupport}
+use Rattle.po_core.specs.Order.{obl_cmp, assumption_cmp}
 use Rattle.po_core.specs.declared.obl.Obl.{Obl}
 use Rattle.po_core.specs.declared.obl.Verdict.{Verdict}
 use Rattle.po_core.specs.declared.obl.Verdict.TheVariants.{Delegated}
@@ -29,13 +30,10 @@ IsReported {P} b o = (R : Obl P → Bool) (A : FunNo → P → Bool) → AreClos
 abbrev pub IsNeeded : {P N T : Type 0} → Book P N T → FunNo → P → Type 0
 IsNeeded {P} b f q = (R : Obl P → Bool) (A : FunNo → P → Bool) → AreClosed b R A → IsTrue (A f q)
 
--- each item is less than each later one
-abbrev pub IsAscending : {X : Type 0} → (X → X → Ordering) → List X → Type 0
-IsAscending cmp xs = AllPairs (λ x y. cmp x y ≡ Less) xs
-
--- The lists of the least report, both ascending, each obligation with its verdict.
-pub record IsLeastReport {P N T : Type 0} (obl_cmp : Obl P → Obl P → Ordering) (pred_cmp : (FunNo × P) → (FunNo × P) → Ordering) (b : Book P N T) (r : Report P N) : Type 0 where
+-- The lists of the least report, each obligation with its verdict. Each line is before each later one by the order of
+-- obligations, and each assumption before each later one; `by` compares predicates.
+pub record IsLeastReport {P N T : Type 0} (by : P → P → Ordering) (b : Book P N T) (r : Report P N) : Type 0 where
   pub lines : (o : Obl P) (v : Verdict P N) → Contains r.lines (o, v) ↔ (IsReported b o × (v ≡ b.verdict_of o))
   pub assumptions : (f : FunNo) (q : P) → Contains r.assumptions (f, q) ↔ IsNeeded b f q
-  pub lines_ascend : AllPairs (λ x y. obl_cmp x.0 y.0 ≡ Less) r.lines
-  pub assumptions_ascend : IsAscending pred_cmp r.assumptions
+  pub lines_ascend : AllPairs (λ x y. obl_cmp by x.0 y.0 ≡ Less) r.lines
+  pub assumptions_ascend : AllPairs (λ x y. assumption_cmp by x y ≡ Less) r.assumptions

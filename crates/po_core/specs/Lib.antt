@@ -1,4 +1,8 @@
 pub mod Book
+pub mod Order
 pub mod Least
 pub mod Core
 pub mod Theorem
+pub mod Lists
+pub mod Decided
+pub mod Marks

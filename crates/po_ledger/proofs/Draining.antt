@@ -15,7 +15,7 @@ use Rattle.po_core.specs.declared.event.Hand.{Hand}
 use Rattle.po_core.specs.declared.obl.Obl.{Obl}
 use Rattle.po_core.specs.declared.obl.Verdict.{Verdict}
 use Rattle.po_core.specs.declared.obl.Verdict.TheVariants.{Delegated}
-use Rattle.po_core.proofs.Lists.{contains}
+use Rattle.po_core.specs.Lists.{contains}
 use Rattle.po_ledger.proofs.Agreeing.{one_hand}
 use Rattle.po_ledger.proofs.Settled.{got_in}
 use Rattle.po_ledger.specs.Alone.{NoneHeld, HoldsOnly, IsSettledUpTo, IsDue, SettlesPlace}

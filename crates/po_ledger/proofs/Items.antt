@@ -6,7 +6,7 @@ use Rattle.std.proofs.lemmas.Option.{slice_get-get_or}
 use Rattle.po_base.specs.declared.numbers.FunNo.{FunNo}
 use Rattle.po_core.specs.Book.{Book}
 use Rattle.po_core.specs.declared.obl.Obl.{Obl}
-use Rattle.po_core.proofs.Lists.{Has, has, contains}
+use Rattle.po_core.specs.Lists.{Has, has, contains}
 use Rattle.po_ledger.specs.View.{TicketView, IsTicket, AreTables}
 use Rattle.po_ledger.proofs.Settled.{got_in}
 

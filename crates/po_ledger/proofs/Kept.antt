@@ -16,8 +16,8 @@ use Rattle.po_core.specs.declared.event.Mark.{Mark}
 use Rattle.po_core.specs.declared.event.Mark.TheVariants.{Untaken, Taken}
 use Rattle.po_core.specs.declared.obl.Obl.{Obl}
 use Rattle.po_core.specs.declared.obl.Verdict.{Verdict}
-use Rattle.po_core.proofs.Lists.{has}
-use Rattle.po_core.proofs.Members.{settled_taken, taken_untaken}
+use Rattle.po_core.specs.Lists.{has}
+use Rattle.po_core.specs.Marks.{settled_taken, taken_untaken}
 use Rattle.po_ledger.specs.Calls.{Does}
 use Rattle.po_ledger.specs.Parts.{IsRemarked, TakesFrom}
 use Rattle.po_ledger.specs.View.{LedgerView, IsKept, IsRoomFor, AreTables}
@@ -41,14 +41,15 @@ order_of {P} {N} {T} of_book b l q h = subst (λ (z : Book P N T). (es : List (E
 
 module _ {P N T : Type 0} (b : Book P N T) (of_book : Book P N T) (l m : LedgerView P N) (shelves : List (List (FunNo × T))) (k : IsKept b of_book l shelves) where
   -- what a call that is one event keeps
-  pub kept_after : (later : List (List (FunNo × T))) (e : Event P N) → Does b e l m → IsRoomFor m.state m.spare → AreApart (map (λ x. x.0) m.state.marks) → length m.state.hands ≡ length l.state.hands → length later ≡ length shelves → ((at : ℕ) (tables : List (FunNo × T)) → slice_get later at ≡ Some tables → AreTables b tables) → IsKept b of_book m later
-  kept_after later e did room apart hands same shelved = record {
+  pub kept_after : (later : List (List (FunNo × T))) (e : Event P N) → Does b e l m → IsRoomFor m.state m.spare → AreApart (map (λ x. x.0) m.state.marks) → AreApart m.state.assumed → length m.state.hands ≡ length l.state.hands → length later ≡ length shelves → ((at : ℕ) (tables : List (FunNo × T)) → slice_get later at ≡ Some tables → AreTables b tables) → IsKept b of_book m later
+  kept_after later e did room apart assumed_apart hands same shelved = record {
     same_book = k.same_book;
     ledger = record {
       replays = subst (λ (z : List (Event P N)). Replays b z m.state) (sym did.appends) (replays_more b l.journal e l.state m.state k.ledger.replays did.steps);
       room = room;
     };
     apart = apart;
+    assumed_apart = assumed_apart;
     hands_there = hands ∙ k.hands_there;
     shelves_there = same ∙ k.shelves_there;
     shelved = shelved;
@@ -61,6 +62,9 @@ module _ {P N T : Type 0} (b : Book P N T) (of_book : Book P N T) (l m : LedgerV
   -- a remark keeps the obligations apart
   remarked_apart : (mark : Remark P N) → IsRemarked b mark l.state.marks m.state.marks → AreApart (map (λ x. x.0) m.state.marks)
   remarked_apart mark h = subst (λ (z : List (Obl P)). AreApart z) (sym (keys_same l.state.marks m.state.marks h.length_same (λ j d w. (h.each j d w).0))) k.apart
+
+  still_apart : m.state.assumed ≡ l.state.assumed → AreApart m.state.assumed
+  still_apart same = subst (λ (z : List (FunNo × P)). AreApart z) (sym same) k.assumed_apart
 
   pub assumed_kept : m.state.assumed ≡ l.state.assumed → KeepsAssumed l.state m.state
   assumed_kept same f q = (λ h. subst (λ (z : List (FunNo × P)). Contains z (f, q)) same h, λ h. subst (λ (z : List (FunNo × P)). Contains z (f, q)) (sym same) h)
@@ -76,6 +80,7 @@ module _ {P N T : Type 0} (b : Book P N T) (of_book : Book P N T) (l m : LedgerV
   ask_kept worker done did same le = kept_after shelves (Ask worker done) did
       (room_kept l.state m.state l.spare m.spare k.ledger.room (λ o h. subst (λ (z : CoreState P N). HasMark z o Taken) same h) (λ f h. subst (λ (z : CoreState P N). IsHeld z f) same h) le)
       (subst (λ (z : CoreState P N). AreApart (map (λ x. x.0) z.marks)) (sym same) k.apart)
+      (still_apart (ap (λ (z : CoreState P N). z.assumed) same))
       (ap (λ (z : CoreState P N). length z.hands) same) refl k.shelved
 
   -- taking
@@ -94,10 +99,11 @@ module _ {P N T : Type 0} (b : Book P N T) (of_book : Book P N T) (l m : LedgerV
   unfoldable pub take_does : (worker : ℕ) (file : FileNo) → CanTake b l.state file → Takes b worker file l.state m.state → m.journal ≡ l.journal ++ Take worker file ∷ [] → Does b (Take worker file) l m
   take_does worker file can takes grows = record { steps = record { legal = can; effect = takes }; appends = grows }
 
-  pub take_kept : (later : List (List (FunNo × T))) (worker : ℕ) (file : FileNo) (did : Does b (Take worker file) l m) → IsRemarked b (r.Take file) l.state.marks m.state.marks → length m.state.hands ≡ length l.state.hands → l.spare + (length did.steps.effect.hand.items + 1) ≤ m.spare → later ≡ set shelves file.0 [] → IsKept b of_book m later
-  take_kept later worker file did marks hands le is = kept_after later (Take worker file) did
+  pub take_kept : (later : List (List (FunNo × T))) (worker : ℕ) (file : FileNo) (did : Does b (Take worker file) l m) → IsRemarked b (r.Take file) l.state.marks m.state.marks → m.state.assumed ≡ l.state.assumed → length m.state.hands ≡ length l.state.hands → l.spare + (length did.steps.effect.hand.items + 1) ≤ m.spare → later ≡ set shelves file.0 [] → IsKept b of_book m later
+  take_kept later worker file did marks same hands le is = kept_after later (Take worker file) did
       (room_taken l.state m.state l.spare m.spare k.ledger.room b worker file did.steps.effect le)
       (remarked_apart (r.Take file) marks)
+      (still_apart same)
       hands
       (ap length is ∙ length-set shelves file.0 [])
       (λ at tables h. elim (cases_eq at file.0) [
@@ -125,13 +131,13 @@ module _ {P N T : Type 0} (b : Book P N T) (of_book : Book P N T) (l m : LedgerV
     appends = grows;
   }
 
-  pub settle_kept : (file : FileNo) (o : Obl P) (v : Verdict P N) (did : Does b (Settle file o v) l m) → IsRemarked b (r.Settle o v) l.state.marks m.state.marks → m.state.hands ≡ l.state.hands → l.spare ≤ m.spare + 1 → IsKept b of_book m shelves
-  settle_kept file o v did marks hands le = kept_after shelves (Settle file o v) did
+  pub settle_kept : (file : FileNo) (o : Obl P) (v : Verdict P N) (did : Does b (Settle file o v) l m) → IsRemarked b (r.Settle o v) l.state.marks m.state.marks → m.state.hands ≡ l.state.hands → m.state.assumed ≡ l.state.assumed → l.spare ≤ m.spare + 1 → IsKept b of_book m shelves
+  settle_kept file o v did marks hands same le = kept_after shelves (Settle file o v) did
       (room_settled l.state m.state l.spare m.spare k.ledger.room o did.steps.legal.0.1 (λ p h. elim ((did.steps.effect.marks p Taken).0 h) [
         | inl x ↦ absurd (settled_taken v (sym x.0))
         | inr x ↦ (x.0, λ q. x.1 (refl, q))
       ]) (λ f h. (h.0, (did.steps.effect.hands f h.0).0 h.1)) le)
-      (remarked_apart (r.Settle o v) marks) (ap length hands) refl k.shelved
+      (remarked_apart (r.Settle o v) marks) (still_apart same) (ap length hands) refl k.shelved
 
   -- giving back
   pub frees : (file : FileNo) → m.state.hands ≡ set l.state.hands file.0 None → m.state.assumed ≡ l.state.assumed → file.0 < length l.state.hands → Frees file l.state m.state
@@ -150,10 +156,11 @@ module _ {P N T : Type 0} (b : Book P N T) (of_book : Book P N T) (l m : LedgerV
     appends = grows;
   }
 
-  pub give_kept : (later : List (List (FunNo × T))) (worker : ℕ) (file : FileNo) (tables : List (FunNo × T)) (did : Does b (Give worker file) l m) → m.state.marks ≡ l.state.marks → length m.state.hands ≡ length l.state.hands → l.spare ≤ m.spare + 1 → AreTables b tables → later ≡ set shelves file.0 tables → IsKept b of_book m later
-  give_kept later worker file tables did same hands le right is = kept_after later (Give worker file) did
+  pub give_kept : (later : List (List (FunNo × T))) (worker : ℕ) (file : FileNo) (tables : List (FunNo × T)) (did : Does b (Give worker file) l m) → m.state.marks ≡ l.state.marks → m.state.assumed ≡ l.state.assumed → length m.state.hands ≡ length l.state.hands → l.spare ≤ m.spare + 1 → AreTables b tables → later ≡ set shelves file.0 tables → IsKept b of_book m later
+  give_kept later worker file tables did same assumed hands le right is = kept_after later (Give worker file) did
       (room_freed l.state m.state l.spare m.spare k.ledger.room file (did.steps.legal.0.0, did.steps.legal.0.1) (λ o h. (did.steps.effect.1 o Taken).0 h) (freed file did.steps.effect.0) le)
       (subst (λ (z : List (Obl P × Mark P N)). AreApart (map (λ x. x.0) z)) (sym same) k.apart)
+      (still_apart assumed)
       hands
       (ap length is ∙ length-set shelves file.0 tables)
       (λ at here h. elim (cases_eq at file.0) [
@@ -182,10 +189,10 @@ module _ {P N T : Type 0} (b : Book P N T) (of_book : Book P N T) (l m : LedgerV
     appends = grows;
   }
 
-  pub put_back_kept : (file : FileNo) (did : Does b (PutBack file) l m) → IsRemarked b (r.PutBack file) l.state.marks m.state.marks → length m.state.hands ≡ length l.state.hands → l.spare ≤ m.spare + 1 → IsKept b of_book m shelves
-  put_back_kept file did marks hands le = kept_after shelves (PutBack file) did
+  pub put_back_kept : (file : FileNo) (did : Does b (PutBack file) l m) → IsRemarked b (r.PutBack file) l.state.marks m.state.marks → m.state.assumed ≡ l.state.assumed → length m.state.hands ≡ length l.state.hands → l.spare ≤ m.spare + 1 → IsKept b of_book m shelves
+  put_back_kept file did marks same hands le = kept_after shelves (PutBack file) did
       (room_freed l.state m.state l.spare m.spare k.ledger.room file did.steps.legal (λ o h. elim ((did.steps.effect.1 o Taken).0 h) [ inl x ↦ absurd (taken_untaken x.0) | inr x ↦ x.0 ]) (freed file did.steps.effect.0) le)
-      (remarked_apart (r.PutBack file) marks) hands refl k.shelved
+      (remarked_apart (r.PutBack file) marks) (still_apart same) hands refl k.shelved
 
 module _ {P N T : Type 0} (b of_book : Book P N T) (l : LedgerView P N) (shelves : List (List (FunNo × T))) (k : IsKept b of_book l shelves) (law : (es : List (Event P N)) (s : CoreState P N) → Replays of_book es s → IsOrderly of_book s) where
   pub order_here : IsOrderly b l.state
@@ -210,4 +217,4 @@ module _ {P N T : Type 0} (b of_book : Book P N T) (l : LedgerView P N) (shelves
     put_back_did file held marks hands same grows = put_back_does b of_book l m shelves k file order_here held (frees b of_book l m shelves k file hands same (held_place file held)) (remarked_here (r.PutBack file) marks) grows
 
     pub put_back_keeps : (file : FileNo) → IsHeld l.state file → IsRemarked of_book (r.PutBack file) l.state.marks m.state.marks → m.state.hands ≡ set l.state.hands file.0 None → m.state.assumed ≡ l.state.assumed → m.journal ≡ l.journal ++ PutBack file ∷ [] → l.spare ≤ m.spare + 1 → IsKept b of_book m shelves
-    put_back_keeps file held marks hands same grows le = put_back_kept b of_book l m shelves k file (put_back_did file held marks hands same grows) (remarked_here (r.PutBack file) marks) (ap length hands ∙ length-set l.state.hands file.0 None) le
+    put_back_keeps file held marks hands same grows le = put_back_kept b of_book l m shelves k file (put_back_did file held marks hands same grows) (remarked_here (r.PutBack file) marks) same (ap length hands ∙ length-set l.state.hands file.0 None) le

@@ -13,3 +13,7 @@ pub mod Tables
 pub mod Agreeing
 pub mod Draining
 pub mod Drained
+mod Counted
+mod Lined
+mod Ascending
+mod Reported

@@ -3,7 +3,7 @@ use Rattle.std.proofs.Common.{◌≡◌, ◌⊎◌, ℕ, ◌+◌, ◌<◌, List,
 use Rattle.std.specs.List.{Contains}
 use Rattle.std.proofs.lemmas.List.{take_more}
 use Rattle.std.proofs.lemmas.List.Elements.{Contains-push_cases}
-use Rattle.po_core.proofs.Lists.{Has, has, contains, contains_map, has_from_map}
+use Rattle.po_core.specs.Lists.{Has, has, contains, contains_map, has_from_map}
 use Rattle.po_core.specs.Core.{AreApart}
 use Rattle.po_core.specs.declared.event.Mark.{Mark}
 use Rattle.po_core.specs.declared.obl.Obl.{Obl}
@@ -63,23 +63,23 @@ front_last {X} xs i e l q = subst (λ (z : List X). Contains z e) (sym (take_rea
 pub front_more : {X : Type 0} (xs : List X) (i : ℕ) (e x : X) → i < length xs → e ≡ get_or xs i e → Contains (take i xs) x → Contains (take (i + 1) xs) x
 front_more {X} xs i e x l q h = subst (λ (z : List X). Contains z x) (sym (take_read xs i e l q)) (Contains-append_left (take i xs) (e ∷ []) x h)
 
+-- a key stands at one place
+pub key_once : {P N : Type 0} (marks : List (Obl P × Mark P N)) (i : ℕ) (e : Obl P × Mark P N) → AreApart (map (λ x. x.0) marks) → i < length marks → e ≡ get_or marks i e → (m : Mark P N) → Has (take i marks) (e.0, m) → ⊥
+key_once [] i e a l q m h = absurd (omega arith)
+key_once (x ∷ xs) zero e a l q m h = h
+key_once {P} {N} (x ∷ xs) (suc i) e a l q m h =
+    let later : i < length xs = omega arith in
+    elim h [
+      | inl k ↦ a.0 (mark_of_key xs x.0 (e.1, subst (λ (z : Obl P). Contains xs (z, e.1)) (ap (λ (z : Obl P × Mark P N). z.0) (sym k)) (read_in xs i e later q)))
+      | inr k ↦ key_once xs i e a.1 later q m k
+    ]
+
 module _ {P N T : Type 0} (b : Book P N T) where
   pub none_more : (marks : List (Obl P × Mark P N)) (hands : List (Option (Hand P))) (i : ℕ) (e : Obl P × Mark P N) → i < length marks → e ≡ get_or marks i e → NoneTakeable b (take i marks) hands → (e.1 ≡ Untaken → HandAt hands (file_of_obl b e.0)) → NoneTakeable b (take (i + 1) marks) hands
   none_more marks hands i e l q none here o h = elim (front_cases marks i e (o, Untaken) l q h) [
     | inl k ↦ none o k
     | inr k ↦ subst (λ (z : Obl P). HandAt hands (file_of_obl b z)) (ap (λ (z : Obl P × Mark P N). z.0) k) (here (ap (λ (z : Obl P × Mark P N). z.1) k))
   ]
-
-  -- a key stands at one place
-  key_once : (marks : List (Obl P × Mark P N)) (i : ℕ) (e : Obl P × Mark P N) → AreApart (map (λ x. x.0) marks) → i < length marks → e ≡ get_or marks i e → (m : Mark P N) → Has (take i marks) (e.0, m) → ⊥
-  key_once [] i e a l q m h = absurd (omega arith)
-  key_once (x ∷ xs) zero e a l q m h = h
-  key_once (x ∷ xs) (suc i) e a l q m h =
-      let later : i < length xs = omega arith in
-      elim h [
-        | inl k ↦ a.0 (mark_of_key xs x.0 (e.1, subst (λ (z : Obl P). Contains xs (z, e.1)) (ap (λ (z : Obl P × Mark P N). z.0) (sym k)) (read_in xs i e later q)))
-        | inr k ↦ key_once xs i e a.1 later q m k
-      ]
 
   pub takes_none : (marks : List (Obl P × Mark P N)) (file : FileNo) → TakesFrom b (take 0 marks) file []
   takes_none marks file = record { all = λ o. (λ h. absurd (has [] o h), λ h. absurd (has [] (o, Untaken) h.0)); once = tt }

@@ -8,7 +8,7 @@ use Rattle.po_base.specs.declared.numbers.FileNo.{FileNo}
 use Rattle.po_base.specs.declared.numbers.FunNo.{FunNo}
 use Rattle.po_base.specs.declared.numbers.NodeNo.{NodeNo}
 use Rattle.po_core.specs.Book.{Book, IsSupport}
-use Rattle.po_core.specs.Core.{CoreState, HasMark, IsAssumed, Posts, Replays, IsLegal}
+use Rattle.po_core.specs.Core.{AreApart, CoreState, HasMark, IsAssumed, Posts, Replays, IsLegal}
 use Rattle.po_core.specs.Theorem.{IsOrderly}
 use Rattle.po_core.specs.declared.event.Event.{Event}
 use Rattle.po_core.specs.declared.event.Event.TheVariants.{Post}
@@ -19,12 +19,13 @@ use Rattle.po_core.specs.declared.obl.Cause.{Cause}
 use Rattle.po_core.specs.declared.obl.Cause.TheVariants.{Support}
 use Rattle.po_core.specs.declared.obl.Obl.{Obl}
 use Rattle.po_core.specs.declared.obl.Verdict.TheVariants.{Delegated}
-use Rattle.po_core.proofs.Lists.{has, contains, contains_map, has_from_map}
-use Rattle.po_core.proofs.Members.{settled_untaken, taken_untaken}
+use Rattle.po_core.specs.Lists.{has, contains, contains_map, has_from_map}
+use Rattle.po_core.specs.Marks.{settled_untaken, taken_untaken}
 use Rattle.po_ledger.specs.Calls.{Does, CanPost, PostsItem, IsOpenAt, IsItemAt}
 use Rattle.po_ledger.specs.Parts.{AddsEach, AddsItem, supports_of}
 use Rattle.po_ledger.specs.View.{LedgerView, TicketView, IsKept, view_of}
 use Rattle.po_ledger.proofs.Kept.{does_seen, order_here, kept_after}
+use Rattle.po_ledger.proofs.Lists.{apart_push}
 use Rattle.po_ledger.proofs.Room.{room_kept}
 use Rattle.po_ledger.proofs.Settled.{got_in, open_unsettled, same_item}
 
@@ -51,7 +52,7 @@ module _ {P N T : Type 0} (b : Book P N T) (f : FunNo) (q : P) (s t : CoreState 
   assumed_cases : (g : FunNo) (r : P) → IsAssumed t g r → IsAssumed s g r ⊎ ((g ≡ f) × (r ≡ q))
   assumed_cases g r h = elim assumes [
     | inl x ↦ inl (subst (λ (z : List (FunNo × P)). Contains z (g, r)) x.1 h)
-    | inr x ↦ elim (Contains-push_cases s.assumed (f, q) (g, r) (subst (λ (z : List (FunNo × P)). Contains z (g, r)) x h)) [
+    | inr x ↦ elim (Contains-push_cases s.assumed (f, q) (g, r) (subst (λ (z : List (FunNo × P)). Contains z (g, r)) x.1 h)) [
       | inl k ↦ inl k
       | inr k ↦ inr (ap (λ (z : FunNo × P). z.0) (sym k), ap (λ (z : FunNo × P). z.1) (sym k))
     ]
@@ -60,13 +61,13 @@ module _ {P N T : Type 0} (b : Book P N T) (f : FunNo) (q : P) (s t : CoreState 
   now_assumed : IsAssumed t f q
   now_assumed = elim assumes [
     | inl x ↦ subst (λ (z : List (FunNo × P)). Contains z (f, q)) (sym x.1) x.0
-    | inr x ↦ subst (λ (z : List (FunNo × P)). Contains z (f, q)) (sym x) (Contains-push s.assumed (f, q))
+    | inr x ↦ subst (λ (z : List (FunNo × P)). Contains z (f, q)) (sym x.1) (Contains-push s.assumed (f, q))
   ]
 
   still_assumed : (g : FunNo) (r : P) → IsAssumed s g r → IsAssumed t g r
   still_assumed g r h = elim assumes [
     | inl x ↦ subst (λ (z : List (FunNo × P)). Contains z (g, r)) (sym x.1) h
-    | inr x ↦ subst (λ (z : List (FunNo × P)). Contains z (g, r)) (sym x) (Contains-append_left s.assumed ((f, q) ∷ []) (g, r) h)
+    | inr x ↦ subst (λ (z : List (FunNo × P)). Contains z (g, r)) (sym x.1) (Contains-append_left s.assumed ((f, q) ∷ []) (g, r) h)
   ]
 
   pub posts : Posts b f q s t
@@ -88,6 +89,11 @@ module _ {P N T : Type 0} (b : Book P N T) (f : FunNo) (q : P) (s t : CoreState 
     );
     hands = λ g h. (λ x. ap (λ (z : List (Option (Hand P))). slice_get z g.0) (sym hands) ∙ x, λ x. ap (λ (z : List (Option (Hand P))). slice_get z g.0) hands ∙ x);
   }
+
+-- items that stand apart, and one that is added
+apart_added : {X : Type 0} (old new : List X) (x : X) → AreApart old → AddsItem old new x → AreApart new
+apart_added {X} old new x a (inl h) = subst (λ (z : List X). AreApart z) (sym h.1) a
+apart_added {X} old new x a (inr h) = subst (λ (z : List X). AreApart z) (sym h.1) (apart_push old x a h.0)
 
 module _ {P N T : Type 0} (b of_book : Book P N T) (l : LedgerView P N) (shelves : List (List (FunNo × T))) (kept : IsKept b of_book l shelves) (law : (es : List (Event P N)) (s : CoreState P N) → Replays of_book es s → IsOrderly of_book s) (t : TicketView P T) (old : LedgerView P N) (seen : l ≡ old) (k : ℕ) (q : P) (can : CanPost b old.state t k q) (p : Obl P) (item : IsItemAt t k p) where
   can_here : CanPost b l.state t k q
@@ -132,7 +138,7 @@ module _ {P N T : Type 0} (b of_book : Book P N T) (l : LedgerView P N) (shelves
     pub post_keeps : l.spare ≤ m.spare → IsKept b of_book m shelves
     post_keeps le = kept_after b of_book l m shelves kept shelves (Post t.file p q) post_did
         (room_kept l.state m.state l.spare m.spare kept.ledger.room (λ o h. elim ((post_effect.marks o Taken).0 h) [ inl y ↦ y | inr y ↦ absurd (taken_untaken y.0) ]) (λ g h. (h.0, (post_effect.hands g h.0).0 h.1)) le)
-        (adds.apart kept.apart) (ap length hands) refl kept.shelved
+        (adds.apart kept.apart) (apart_added l.state.assumed m.state.assumed (p.fun, q) kept.assumed_apart assumes) (ap length hands) refl kept.shelved
 
 -- what is cut back to its front
 pub cut_back : {X : Type 0} (old long cut : List X) (n : ℕ) → n ≡ length old → (more : List X) × (long ≡ old ++ more) → cut ≡ take n long → cut ≡ old

@@ -6,8 +6,8 @@ use Rattle.po_core.specs.Book.{Book}
 use Rattle.po_core.specs.Core.{AreApart, CoreState, HasMark, IsHeld, Takes}
 use Rattle.po_core.specs.declared.event.Mark.TheVariants.{Taken}
 use Rattle.po_core.specs.declared.obl.Obl.{Obl}
-use Rattle.po_core.proofs.Lists.{has, contains, apart_within}
-use Rattle.po_core.proofs.Members.{files_decided}
+use Rattle.po_core.specs.Lists.{has, contains, apart_within}
+use Rattle.po_core.specs.Decided.{files_decided}
 use Rattle.po_ledger.specs.View.{IsRoomFor}
 
 -- a list whose items are each of one kind or the other, in two parts

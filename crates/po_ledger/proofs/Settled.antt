@@ -16,8 +16,8 @@ use Rattle.po_core.specs.declared.event.Mark.{Mark}
 use Rattle.po_core.specs.declared.event.Mark.TheVariants.{Untaken, Taken, Settled}
 use Rattle.po_core.specs.declared.obl.Obl.{Obl}
 use Rattle.po_core.specs.declared.obl.Verdict.{Verdict}
-use Rattle.po_core.proofs.Lists.{Has, has, contains, contains_map, has_from_map}
-use Rattle.po_core.proofs.Orderly.{same_hand}
+use Rattle.po_core.specs.Lists.{Has, has, contains, contains_map, has_from_map}
+use Rattle.po_core.specs.Marks.{same_hand}
 use Rattle.po_ledger.specs.Calls.{Does, CanSettle, SettlesItem, CanGive, IsOpenAt, IsItemAt}
 use Rattle.po_ledger.specs.Parts.{IsRemarked}
 use Rattle.po_ledger.specs.View.{LedgerView, TicketView, IsKept, AreTables, Fits, items_of}
@@ -126,7 +126,7 @@ module _ {P N T : Type 0} (b of_book : Book P N T) (l : LedgerView P N) (shelves
       settle_did = settle_does b of_book l m shelves kept t.file p v (settle_legal b l.state (order_here b of_book l shelves kept law) t k v p can_here item) (remarked_here b of_book l shelves kept law m (r.Settle p v) marks) hands same (subst (λ (z : FileNo). m.journal ≡ l.journal ++ Settle z p v ∷ []) of_ticket grows)
 
       pub settle_keeps : l.spare ≤ m.spare + 1 → IsKept b of_book m shelves
-      settle_keeps le = settle_kept b of_book l m shelves kept t.file p v settle_did (remarked_here b of_book l shelves kept law m (r.Settle p v) marks) hands le
+      settle_keeps le = settle_kept b of_book l m shelves kept t.file p v settle_did (remarked_here b of_book l shelves kept law m (r.Settle p v) marks) hands same le
 
       pub settles_item : (u : TicketView P T) → (o : Obl P) × IsItemAt t k o × (u ≡ record t { hand = set t.hand k (o, true) }) → SettlesItem b k v t u old m
       settles_item u w =
@@ -168,4 +168,4 @@ module _ {P N T : Type 0} (b of_book : Book P N T) (l : LedgerView P N) (shelves
       give_did = does_seen b (Give t.worker t.file) l old m q give_done
 
       pub give_keeps : (later : List (List (FunNo × T))) (tables : List (FunNo × T)) → AreTables b tables → later ≡ set shelves file.0 tables → l.spare ≤ m.spare + 1 → IsKept b of_book m later
-      give_keeps later tables right is le = give_kept b of_book l m shelves kept later t.worker t.file tables give_done marks (ap length hands ∙ length-set l.state.hands file.0 None) le right (subst (λ (z : FileNo). later ≡ set shelves z.0 tables) of_file is)
+      give_keeps later tables right is le = give_kept b of_book l m shelves kept later t.worker t.file tables give_done marks same (ap length hands ∙ length-set l.state.hands file.0 None) le right (subst (λ (z : FileNo). later ≡ set shelves z.0 tables) of_file is)

@@ -9,7 +9,7 @@ use Rattle.po_base.specs.declared.numbers.FileNo.{FileNo}
 use Rattle.po_base.specs.declared.numbers.FunNo.{FunNo}
 use Rattle.po_base.specs.declared.numbers.NodeNo.{NodeNo}
 use Rattle.po_core.specs.Book.{Book, IsPrimary, file_of_obl}
-use Rattle.po_core.specs.Core.{CoreState, HasMark, IsHeld, IsQuiet, CanTake, IsStart, Runs}
+use Rattle.po_core.specs.Core.{AreApart, CoreState, HasMark, IsHeld, IsQuiet, CanTake, IsStart, Runs}
 use Rattle.po_core.specs.declared.event.Event.{Event}
 use Rattle.po_core.specs.declared.event.Hand.{Hand}
 use Rattle.po_core.specs.declared.event.Mark.{Mark}
@@ -17,8 +17,8 @@ use Rattle.po_core.specs.declared.event.Mark.TheVariants.{Untaken, Taken}
 use Rattle.po_core.specs.declared.obl.Cause.{Cause}
 use Rattle.po_core.specs.declared.obl.Cause.TheVariants.{Primary}
 use Rattle.po_core.specs.declared.obl.Obl.{Obl}
-use Rattle.po_core.proofs.Lists.{Has, has, contains, contains_map, has_from_map}
-use Rattle.po_core.proofs.Members.{taken_untaken}
+use Rattle.po_core.specs.Lists.{Has, has, contains, contains_map, has_from_map}
+use Rattle.po_core.specs.Marks.{taken_untaken}
 use Rattle.po_ledger.specs.Calls.{IsNew}
 use Rattle.po_ledger.specs.Parts.{AddsEach, HandAt, NoneTakeable, primaries_of, primaries_below}
 use Rattle.po_ledger.specs.View.{LedgerView, IsKept}
@@ -113,6 +113,7 @@ module _ {P N T : Type 0} (b of_book : Book P N T) (same : of_book ≡ b) (l : L
       room = λ os fs oa om fa fm. nothing_held os fs om fm;
     };
     apart = adds.apart tt;
+    assumed_apart = subst (λ (z : List (FunNo × P)). AreApart z) (sym none) tt;
     hands_there = ap length hands ∙ (length-replicate files None ∙ (all ∙ ap (λ (z : Book P N T). z.files) same));
     shelves_there = ap length shelf ∙ (length-replicate many [] ∙ (each ∙ ap (λ (z : Book P N T). z.files) same));
     shelved = λ at tables h f table c. absurd (has [] (f, table) (subst (λ (z : List (FunNo × T)). Contains z (f, table)) (sym (no_tables many at tables (ap (λ (z : List (List (FunNo × T))). slice_get z at) (sym shelf) ∙ h))) c));

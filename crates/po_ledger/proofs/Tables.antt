@@ -6,7 +6,7 @@ use Rattle.std.proofs.lemmas.Option.{slice_get_read, slice_get_within, same_Some
 use Rattle.std.proofs.lemmas.List.Elements.{Contains-push_cases}
 use Rattle.po_base.specs.declared.numbers.FunNo.{FunNo}
 use Rattle.po_core.specs.Book.{Book}
-use Rattle.po_core.proofs.Lists.{contains}
+use Rattle.po_core.specs.Lists.{contains}
 use Rattle.po_ledger.specs.View.{AreTables}
 use Rattle.po_ledger.proofs.Settled.{got_in}
 

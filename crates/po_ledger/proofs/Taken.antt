@@ -13,8 +13,8 @@ use Rattle.po_core.specs.declared.event.Event.{Event}
 use Rattle.po_core.specs.declared.event.Event.TheVariants.{Take}
 use Rattle.po_core.specs.declared.event.Mark.TheVariants.{Untaken, Taken, Settled}
 use Rattle.po_core.specs.declared.obl.Obl.{Obl}
-use Rattle.po_core.proofs.Lists.{Has, has, contains}
-use Rattle.po_core.proofs.Members.{settled_taken}
+use Rattle.po_core.specs.Lists.{Has, has, contains}
+use Rattle.po_core.specs.Marks.{settled_taken}
 use Rattle.po_ledger.specs.Calls.{Does, HandsOut}
 use Rattle.po_ledger.specs.Parts.{IsRemarked, TakesFrom}
 use Rattle.po_ledger.specs.View.{LedgerView, TicketView, IsKept, IsTicket, Fits, items_of}
@@ -76,7 +76,7 @@ module _ {P N T : Type 0} (eq : P → P → Bool) (b of_book : Book P N T) (book
       effect_items = refl
 
       pub take_keeps : (later : List (List (FunNo × T))) (none : List (FunNo × T)) → none ≡ [] → later ≡ set shelves file.0 none → IsKept b of_book m later
-      take_keeps later none empty is = take_kept b of_book l m shelves kept later worker file take_did (remarked_here b of_book l shelves kept law m (r.Take file) marks) (ap length hands ∙ length-set l.state.hands file.0 (Some (record { worker = worker; items = items }))) (let few = ap length taken_items in omega arith) (is ∙ ap (λ (z : List (FunNo × T)). set shelves file.0 z) empty)
+      take_keeps later none empty is = take_kept b of_book l m shelves kept later worker file take_did (remarked_here b of_book l shelves kept law m (r.Take file) marks) same (ap length hands ∙ length-set l.state.hands file.0 (Some (record { worker = worker; items = items }))) (let few = ap length taken_items in omega arith) (is ∙ ap (λ (z : List (FunNo × T)). set shelves file.0 z) empty)
 
       order_after : IsOrderly b m.state
       order_after = order_of of_book b m kept.same_book law m.journal m.state (replays_after b of_book l m shelves kept (Take worker file) take_did)

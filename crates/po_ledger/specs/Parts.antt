@@ -1,6 +1,8 @@
 -- What the parts of a ledger's calls do to its lists.
 use Rattle.std.specs.Prelude.{ℕ, zero, suc, ◌≡◌, ◌<◌, ◌⊎◌, ◌↔◌, List, [], ◌∷◌, ◌++◌, length, map, slice_get, slice_index_or, Option, Some, Bool, IsTrue}
 use Rattle.std.specs.List.{Contains}
+use Rattle.std.specs.List.Sorted.{IsPermutation, IsSortedByKey}
+use Rattle.std.specs.declared.cmp.Ordering.{Ordering}
 use Rattle.po_base.specs.declared.numbers.FileNo.{FileNo}
 use Rattle.po_base.specs.declared.numbers.FunNo.{FunNo}
 use Rattle.po_base.specs.declared.numbers.NodeNo.{NodeNo}
@@ -19,6 +21,10 @@ use Rattle.po_ledger.specs.declared.marks.Remark.TheVariants as r
 -- the list has a mark of the obligation
 abbrev pub HasKey : {P N : Type 0} → List (Obl P × Mark P N) → Obl P → Type 0
 HasKey {P} {N} marks o = (m : Mark P N) × Contains marks (o, m)
+
+-- the mark at a place is one of the obligation
+abbrev pub IsMarkAt : {P N : Type 0} → List (Obl P × Mark P N) → ℕ → Obl P → Type 0
+IsMarkAt {P} {N} marks at o = (m : Mark P N) × (slice_get marks at ≡ Some (o, m))
 
 -- the obligation is there already, or is new at the end and untaken
 abbrev pub AddsUntaken : {P N : Type 0} → List (Obl P × Mark P N) → List (Obl P × Mark P N) → Obl P → Type 0
@@ -88,7 +94,31 @@ pub record TakesFrom {P N T : Type 0} (b : Book P N T) (marks : List (Obl P × M
 
 -- the item is there already, or is new at the end
 abbrev pub AddsItem : {X : Type 0} → List X → List X → X → Type 0
-AddsItem old new x = (Contains old x × (new ≡ old)) ⊎ (new ≡ old ++ x ∷ [])
+AddsItem old new x = (Contains old x × (new ≡ old)) ⊎ ((¬ Contains old x) × (new ≡ old ++ x ∷ []))
+
+-- two lists have the same items
+abbrev pub AreSame : {X : Type 0} → List X → List X → Type 0
+AreSame {X} old new = (x : X) → Contains new x ↔ Contains old x
+
+-- Pairs were sorted by the first of each.
+pub record AreSorted {K V : Type 0} (cmp : K → K → Ordering) (old new : List (K × V)) : Type 0 where
+  pub same : IsPermutation old new
+  pub sorted : IsSortedByKey (λ pair. pair.0) cmp new
+
+-- lines are just the settled obligations with their verdicts
+abbrev pub ListsVerdicts : {P N : Type 0} → List (Obl P × Mark P N) → List (Obl P × Verdict P N) → Type 0
+ListsVerdicts {P} {N} marks lines = (o : Obl P) (v : Verdict P N) → Contains lines (o, v) ↔ Contains marks (o, Settled v)
+
+-- Lines are just the settled obligations with their verdicts, each once.
+pub record AreLines {P N : Type 0} (marks : List (Obl P × Mark P N)) (lines : List (Obl P × Verdict P N)) : Type 0 where
+  pub each : ListsVerdicts marks lines
+  pub apart : AreApart (map (λ line. line.0) lines)
+
+-- a mark that is a verdict makes a line at the end, and another mark makes none
+abbrev pub AddsLine : {P N : Type 0} → (Obl P × Mark P N) → List (Obl P × Verdict P N) → List (Obl P × Verdict P N) → Type 0
+AddsLine (o, Settled v) old new = new ≡ old ++ (o, v) ∷ []
+AddsLine (o, Untaken) old new = new ≡ old
+AddsLine (o, Taken) old new = new ≡ old
 
 -- the list of marks has a verdict of the obligation
 abbrev pub HasVerdict : {P N : Type 0} → List (Obl P × Mark P N) → Obl P → Type 0

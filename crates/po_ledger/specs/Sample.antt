@@ -8,18 +8,18 @@ use Rattle.po_base.specs.declared.numbers.NodeNo.{NodeNo}
 use Rattle.po_core.specs.Book.{Book, IsBook}
 use Rattle.po_core.specs.declared.obl.Verdict.{Verdict}
 use Rattle.po_core.specs.declared.obl.Verdict.TheVariants.{Open, Closed, Delegated}
-use Rattle.po_core.proofs.Lists.{Has, has, contains}
+use Rattle.po_core.specs.Lists.{Has, has, contains}
 
 -- what the first function asks by itself, at two nodes
 abbrev pub own_places : ℕ → List (NodeNo × ℕ)
 own_places zero = (record { 0 = 0 }, 0) ∷ ((record { 0 = 3 }, 0) ∷ [])
 own_places (suc f) = []
 
--- who calls each function, and where: the first is called by the second and the third, the second by the first, and the
--- third by the second
+-- who calls each function, and where: the first is called by the second and the third, the second by the first at a node
+-- that asks something too, and the third by the second
 abbrev pub callers : ℕ → List (FunNo × NodeNo)
 callers zero = (record { 0 = 1 }, record { 0 = 4 }) ∷ ((record { 0 = 2 }, record { 0 = 5 }) ∷ [])
-callers (suc zero) = (record { 0 = 0 }, record { 0 = 7 }) ∷ []
+callers (suc zero) = (record { 0 = 0 }, record { 0 = 0 }) ∷ []
 callers (suc (suc zero)) = (record { 0 = 1 }, record { 0 = 2 }) ∷ []
 callers (suc (suc (suc f))) = []
 

@@ -62,12 +62,13 @@ pub record IsTicket {P N T : Type 0} (b : Book P N T) (hand : List (Obl P × Boo
   pub items_there : AreThere b hand
   pub tables_right : AreTables b tables
 
--- What a ledger's fields keep: the book is the one that the type names, no obligation stands twice, each file has its
--- place, and each table that is kept is right.
+-- What a ledger's fields keep: the book is the one that the type names, no obligation and no assumption stands twice,
+-- each file has its place, and each table that is kept is right.
 pub record IsKept {P N T : Type 0} (named of_book : Book P N T) (l : LedgerView P N) (shelves : List (List (FunNo × T))) : Type 0 where
   pub same_book : of_book ≡ named
   pub ledger : IsLedger named l
   pub apart : AreApart (map (λ e. e.0) l.state.marks)
+  pub assumed_apart : AreApart l.state.assumed
   pub hands_there : length l.state.hands ≡ named.files
   pub shelves_there : length shelves ≡ named.files
   pub shelved : (at : ℕ) (tables : List (FunNo × T)) → slice_get shelves at ≡ Some tables → AreTables named tables

@@ -6,20 +6,27 @@ ghost use Rattle.po_core.specs.declared.event.Event.TheVariants.{Take, Post, Set
 ghost use Rattle.po_core.specs.declared.obl.Obl.{Obl};
 ghost use Rattle.po_core.specs.declared.obl.Verdict.TheVariants.{Delegated};
 ghost use Rattle.po_ledger.specs.Calls.{IsNew, Does, HandsOut, CanPost, PostsItem, CanSettle, SettlesItem, CanGive};
-ghost use Rattle.po_ledger.specs.Answers.{Answers};
+ghost use Rattle.po_core.specs.Least.{IsLeastReport};
+ghost use Rattle.po_ledger.specs.Answers.{Answers, Reports};
 ghost use Rattle.po_ledger.specs.View.{Fits, IsLedger};
 
 use crate::fitting::{hand_at, is_hand_of};
-use crate::marks::{Marks, Remark, change, first_marks};
+use crate::marks::{Marks, Remark, change, first_marks, settle_mark};
 use crate::naming::Naming;
-use crate::next::Next;
+use crate::next::{Next, ReportFail};
 use crate::parts::{
     all_open, any_held, append, empty_shelves, extend, is_held, make_room, no_hands, set_hand,
-    swap_shelf, takeable, untaken_of,
+    swap_shelf, takeable, untaken_of, untaken_places,
+};
+use crate::report::{
+    ascending_assumptions, ascending_lines, held_count, is_some_left, untaken_count,
 };
 use crate::ticket::Ticket;
 use po_base::{FileNo, FunNo, List, Memory};
-use po_core::{Event, Hand, Journal, Obl, Rulebook, Verdict, legal_lists_are_orderly};
+use po_core::{
+    Event, Hand, Journal, Obl, Report, Rulebook, Verdict, legal_lists_are_orderly,
+    quiet_lists_are_least,
+};
 use std::alloc::Global;
 use std::marker::{Model, PhantomData};
 
@@ -51,7 +58,8 @@ impl<'r, R: Rulebook, J: Naming<R::Pred, R::Rule, R::Table>> Model for Ledger<'r
 }
 
 impl<'r, R: Rulebook, J: Naming<R::Pred, R::Rule, R::Table>> Ledger<'r, R, J> {
-    /// A ledger over a rulebook in which the functions' own obligations are known and untaken.
+    /// A ledger over a rulebook in which the functions' own obligations are known and untaken. Time: the square of their
+    /// number, and the number of files.
     pub fn new(alloc: Global, book: &'r R) -> Result<Ledger<'r, R, J>, Memory>
         requires { R.meaning book.now ≡ J.book }
         ensures { IfOk result (IsNew J.book) }
@@ -70,7 +78,7 @@ impl<'r, R: Rulebook, J: Naming<R::Pred, R::Rule, R::Table>> Ledger<'r, R, J> {
         })
     }
 
-    /// The rulebook.
+    /// The rulebook, in constant time.
     pub fn book(&self) -> &'r R
         ensures { R.meaning result.now ≡ J.book }
     {
@@ -104,7 +112,7 @@ impl<'r, R: Rulebook, J: Naming<R::Pred, R::Rule, R::Table>> Ledger<'r, R, J> {
         }
     }
 
-    /// Hands the journal out. It takes no memory.
+    /// Hands the journal out, without a copy. It takes no memory, and constant time beside letting go of the rest.
     pub fn close(self) -> Journal<R::Pred, R::Rule>
         ensures { result ≡ self.entry.journal }
     {
@@ -165,6 +173,32 @@ impl<'r, R: Rulebook, J: Naming<R::Pred, R::Rule, R::Table>> Ledger<'r, R, J> {
         }
     }
 
+    /// The least report of the rulebook, where all is done. `NotQuiet` comes where it isn't, with the number of files
+    /// that are held and of obligations that are untaken. The ledger stays as it is; its lists are copied for the
+    /// report alone. Time: the number of files, and that of sorting the known obligations.
+    pub fn report(&self, alloc: Global) -> Result<Report<R::Pred, R::Rule>, ReportFail>
+        ensures { Reports J.book R.Pred.cmp self.now.state result }
+    {
+        let held = held_count(self.hands.as_slice(), self.book.files());
+        let untaken = untaken_count(self.marks.as_slice());
+        if is_some_left(held, untaken) {
+            return Err(ReportFail::NotQuiet { held, untaken });
+        }
+        Ok(self.least_report(alloc)?)
+    }
+
+    /// The least report, of a ledger that is quiet.
+    fn least_report(&self, alloc: Global) -> Result<Report<R::Pred, R::Rule>, Memory>
+        requires { IsQuiet self.now.state }
+        ensures { IfOk result (IsLeastReport R.Pred.cmp J.book) }
+    {
+        quiet_lists_are_least(self.book);
+        legal_lists_are_orderly(self.book);
+        let lines = ascending_lines(alloc, self.book, self.marks.as_slice())?;
+        let assumptions = ascending_assumptions(alloc, self.book, self.assumed.as_slice())?;
+        Ok(Report { lines, assumptions })
+    }
+
     /// Takes a file that can be taken.
     fn take_file(&mut self, alloc: Global, worker: u8, file: FileNo) -> Result<Ticket<R, J>, Memory>
         requires { CanTake J.book self.old.state file }
@@ -174,6 +208,7 @@ impl<'r, R: Rulebook, J: Naming<R::Pred, R::Rule, R::Table>> Ledger<'r, R, J> {
         legal_lists_are_orderly(self.book);
         let items = untaken_of(alloc, self.book, self.marks.as_slice(), file)?;
         let hand = all_open(alloc, items.as_slice())?;
+        let places = untaken_places(alloc, self.book, self.marks.as_slice(), file)?;
         make_room(&mut self.journal, items.len(), 3)?;
         change(self.book, &mut self.marks, &Remark::Take(file));
         append(&mut self.journal, Event::Take { worker, file });
@@ -183,6 +218,7 @@ impl<'r, R: Rulebook, J: Naming<R::Pred, R::Rule, R::Table>> Ledger<'r, R, J> {
             worker,
             file,
             hand,
+            places,
             tables,
             named: PhantomData,
         })
@@ -244,7 +280,7 @@ impl<'r, R: Rulebook, J: Naming<R::Pred, R::Rule, R::Table>> Ledger<'r, R, J> {
     }
 
     /// Settles an item of a ticket with its verdict; where that delegates, the predicate is assumed already. It
-    /// takes no memory. Time: the number of known obligations.
+    /// takes no memory. Time: constant, since the ticket keeps the place of the item's mark.
     pub fn settle(&mut self, t: &mut Ticket<R, J>, k: usize, v: Verdict<R::Pred, R::Rule>)
         requires within { k < length t.old.hand }
         requires can { CanSettle J.book self.old.state t.old k v }
@@ -253,7 +289,7 @@ impl<'r, R: Rulebook, J: Naming<R::Pred, R::Rule, R::Table>> Ledger<'r, R, J> {
         legal_lists_are_orderly(self.book);
         let obl = *t.item(k);
         let file = t.file();
-        change(self.book, &mut self.marks, &Remark::Settle(obl, v));
+        settle_mark(self.book, &mut self.marks, t.mark_hint(k), obl, v);
         append(
             &mut self.journal,
             Event::Settle {

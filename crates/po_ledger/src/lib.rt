@@ -10,6 +10,7 @@ mod marks;
 mod naming;
 mod next;
 mod parts;
+mod report;
 #[cfg(test)]
 mod sample;
 #[cfg(test)]

@@ -3,7 +3,7 @@ ghost use Rattle.std.specs.List.{Contains};
 ghost use Rattle.po_core.specs.Core.{AreApart};
 ghost use Rattle.po_core.specs.declared.event.Mark.{Mark};
 ghost use Rattle.po_core.specs.declared.obl.Obl.{Obl};
-ghost use Rattle.po_ledger.specs.Parts.{HasKey, AddsUntaken, AddsEach, IsMarkAfter, IsMeant, IsRemarked, old_mark, new_mark, primaries_below, primaries_of, supports_of};
+ghost use Rattle.po_ledger.specs.Parts.{HasKey, AddsUntaken, AddsEach, IsMarkAfter, IsMarkAt, IsMeant, IsRemarked, old_mark, new_mark, primaries_below, primaries_of, supports_of};
 
 use po_base::{FileNo, FunNo, List, Memory, NodeNo};
 use po_core::{Cause, Mark, Obl, Rulebook, Verdict};
@@ -236,4 +236,60 @@ fn change_slice<R: Rulebook>(
         let entry = marks[i];
         marks[i] = (entry.0, mark_after(book, remark, &entry.0, entry.1));
     }
+}
+
+/// Settles an obligation, whose mark is looked for at a place first. Time: constant where it stands there, and else the
+/// number of known obligations.
+pub(crate) fn settle_mark<R: Rulebook>(
+    book: &R,
+    marks: &mut Marks<R::Pred, R::Rule>,
+    hint: usize,
+    o: Obl<R::Pred>,
+    v: Verdict<R::Pred, R::Rule>,
+)
+    requires there { (p : Obl R.Pred) → HasKey marks.old.items p → p.fun.0 < (R.meaning book.now).functions }
+    requires apart { AreApart (map (λ e. e.0) marks.old.items) }
+    ensures { IsRemarked (R.meaning book.now) (Remark.Settle o v) marks.old.items marks.new.items }
+{
+    if is_mark_at(book, marks.as_slice(), hint, &o) {
+        settle_at(book, marks.as_mut_slice(), hint, o, v);
+    } else {
+        change(book, marks, &Remark::Settle(o, v));
+    }
+}
+
+/// Whether the mark at a place is that of an obligation.
+fn is_mark_at<R: Rulebook>(
+    book: &R,
+    marks: &[(Obl<R::Pred>, Mark<R::Pred, R::Rule>)],
+    at: usize,
+    o: &Obl<R::Pred>,
+) -> bool
+    ensures within { IsTrue result → at < length marks.now }
+    ensures stands { IsTrue result → IsMarkAt marks.now at o.now }
+{
+    if at < marks.len() {
+        let entry = marks[at];
+        return is_same(book, &entry.0, o);
+    }
+    false
+}
+
+/// Settles the obligation whose mark stands at a place.
+fn settle_at<R: Rulebook>(
+    book: &R,
+    marks: &mut [(Obl<R::Pred>, Mark<R::Pred, R::Rule>)],
+    at: usize,
+    o: Obl<R::Pred>,
+    v: Verdict<R::Pred, R::Rule>,
+)
+    requires there { (p : Obl R.Pred) → HasKey marks.old p → p.fun.0 < (R.meaning book.now).functions }
+    requires apart { AreApart (map (λ e. e.0) marks.old) }
+    requires within { at < length marks.old }
+    requires stands { IsMarkAt marks.old at o }
+    ensures { IsRemarked (R.meaning book.now) (Remark.Settle o v) marks.old marks.new }
+{
+    let entry = marks[at];
+    let settled = mark_after(book, &Remark::Settle(o, v), &entry.0, entry.1);
+    marks[at] = (entry.0, settled);
 }

@@ -88,7 +88,7 @@ fn takeable_file<R: Rulebook>(
 }
 
 /// Whether a mark says that an obligation is untaken.
-fn is_untaken<P: Copy, N: Copy>(mark: Mark<P, N>) -> bool
+pub(crate) fn is_untaken<P: Copy, N: Copy>(mark: Mark<P, N>) -> bool
     ensures { IsTrue result ↔ (mark ≡ Untaken) }
 {
     match mark {
@@ -164,6 +164,26 @@ pub(crate) fn untaken_of<R: Rulebook>(
         push_untaken(book, &mut items, &entry, file)?;
     }
     Ok(items)
+}
+
+/// Where the untaken obligations of a file stand among the marks, in their order: a hint, on which no answer rests. Time:
+/// the number of known obligations.
+pub(crate) fn untaken_places<R: Rulebook>(
+    alloc: Global,
+    book: &R,
+    marks: &[(Obl<R::Pred>, Mark<R::Pred, R::Rule>)],
+    file: FileNo,
+) -> Result<List<usize>, Memory>
+    requires { (o : Obl R.Pred) → HasKey marks.now o → o.fun.0 < (R.meaning book.now).functions }
+{
+    let mut places = List::new(alloc);
+    for i in 0..marks.len() {
+        let entry = marks[i];
+        if is_untaken_in(book, &entry, file) {
+            places.push(i)?;
+        }
+    }
+    Ok(places)
 }
 
 /// A hand of obligations, none of them settled.

@@ -55,7 +55,7 @@ impl Rulebook for Sample {
     fn call_sites(&self, alloc: Global, f: FunNo) -> Result<List<(FunNo, NodeNo)>, Memory> {
         match f.0 {
             0 => list_of(alloc, &[(FunNo(1), NodeNo(4)), (FunNo(2), NodeNo(5))]),
-            1 => list_of(alloc, &[(FunNo(0), NodeNo(7))]),
+            1 => list_of(alloc, &[(FunNo(0), NodeNo(0))]),
             2 => list_of(alloc, &[(FunNo(1), NodeNo(2))]),
             _ => Ok(List::new(alloc)),
         }

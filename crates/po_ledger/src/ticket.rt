@@ -17,6 +17,7 @@ pub struct Ticket<R: Rulebook, J: Naming<R::Pred, R::Rule, R::Table>> {
     pub(crate) worker: u8,
     pub(crate) file: FileNo,
     pub(crate) hand: List<(Obl<R::Pred>, bool)>,
+    pub(crate) places: List<usize>,
     pub(crate) tables: List<(FunNo, R::Table)>,
     pub(crate) named: PhantomData<J>,
 }
@@ -69,6 +70,14 @@ impl<R: Rulebook, J: Naming<R::Pred, R::Rule, R::Table>> Ticket<R, J> {
         self.hand.as_slice()
     }
 
+    /// Where the ledger's mark of the item at a place of its hand may stand: a hint, on which no answer rests.
+    pub(crate) fn mark_hint(&self, k: usize) -> usize {
+        match self.places.get(k) {
+            Some(at) => *at,
+            None => 0,
+        }
+    }
+
     /// The tables that were made so far, each that of its function.
     pub(crate) fn into_tables(self) -> List<(FunNo, R::Table)>
         ensures { AreTables J.book result }
@@ -88,7 +97,7 @@ impl<R: Rulebook, J: Naming<R::Pred, R::Rule, R::Table>> Ticket<R, J> {
 
     /// The verdict of the obligation at a place of its hand. The table of the obligation's function is made where
     /// the ticket doesn't have it yet, and stays with the ticket; nothing else of the ticket changes. Beside the
-    /// making of a table it takes time in the number of the ticket's tables.
+    /// making of a table it takes time in the number of tables that were made after it, and of all where it is new.
     pub fn verdict(
         &mut self,
         alloc: Global,
@@ -113,12 +122,14 @@ fn is_table_of<T>(entry: &(FunNo, T), f: FunNo) -> bool
     entry.0 == f
 }
 
-/// The place of a function's table among some tables, where it is there. Time: the number of the tables.
+/// The place of a function's table among some tables, where it is there. It is looked for from the last made one
+/// backwards, since a file is worked through function by function. Time: the number of the tables made after it.
 fn find_table<T: Drop>(tables: &List<(FunNo, T)>, f: FunNo) -> Option<usize>
     ensures { IfSome result (λ at. (table : T) × (slice_get tables.now at ≡ Some (f, table))) }
 {
     let all = tables.as_slice();
-    for at in 0..tables.len() {
+    for later in 0..tables.len() {
+        let at = tables.len() - 1 - later;
         if is_table_of(&all[at], f) {
             return Some(at);
         }

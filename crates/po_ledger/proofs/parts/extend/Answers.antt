@@ -9,4 +9,4 @@ pub returns-in_err-assume-clause-assumed_front : goal.returns-in_err-assume-clau
 returns-in_err-assume-clause-assumed_front g c = ([], c.in_err-assume.ensures.err ∙ sym (append-nil _))
 
 pub returns-clause-assumed_front : goal.returns-clause-assumed_front
-returns-clause-assumed_front g c = elim c.in_ok-assume.ensures.ok [ inl h ↦ ([], h.1 ∙ sym (append-nil _)) | inr h ↦ (_, h) ]
+returns-clause-assumed_front g c = elim c.in_ok-assume.ensures.ok [ inl h ↦ ([], h.1 ∙ sym (append-nil _)) | inr h ↦ (_, h.1) ]

@@ -1,18 +1,15 @@
--- What is decided: files, marks and obligations that are one or not. What a remark keeps.
-use Rattle.std.proofs.Common.{◌≡◌, ◌⊎◌, ℕ, refl, sym, ◌∙◌, ap, subst, inl, inr}
+-- Two files, functions, nodes or obligations are one or they aren't.
+use Rattle.std.proofs.Common.{◌≡◌, ◌⊎◌, ℕ, ap, inl, inr, ◌∙◌}
 use Rattle.std.specs.Prelude.{Bool, IsTrue, ◌↔◌}
 use Rattle.std.proofs.lemmas.Bool.{cases_eq, cases_Bool, both_ways}
 use Rattle.po_base.specs.declared.numbers.FileNo.{FileNo}
 use Rattle.po_base.specs.declared.numbers.FunNo.{FunNo}
 use Rattle.po_base.specs.declared.numbers.NodeNo.{NodeNo}
-use Rattle.po_core.specs.Core.{CoreState, HasMark, IsKnown, IsSettled, Remarks}
-use Rattle.po_core.specs.declared.event.Mark.{Mark}
-use Rattle.po_core.specs.declared.event.Mark.TheVariants.{Untaken, Taken, Settled}
 use Rattle.po_core.specs.declared.obl.Cause.{Cause}
 use Rattle.po_core.specs.declared.obl.Cause.TheVariants.{Primary, Support}
 use Rattle.po_core.specs.declared.obl.Obl.{Obl}
-use Rattle.po_core.specs.declared.obl.Verdict.{Verdict}
 
+-- it is so or it isn't
 abbrev pub IsDecided : Type 0 → Type 0
 IsDecided A = A ⊎ (A → ⊥)
 
@@ -51,46 +48,3 @@ module _ {P : Type 0} (decided : (p q : P) → IsDecided (p ≡ q)) where
 -- a test that says what is one decides it
 pub decided_by : {X : Type 0} (same : X → X → Bool) → ((x y : X) → IsTrue (same x y) ↔ (x ≡ y)) → (x y : X) → IsDecided (x ≡ y)
 decided_by same says x y = elim (cases_Bool (same x y)) [ inl q ↦ inl ((says x y).0 q) | inr q ↦ inr (λ h. both_ways (same x y) q ((says x y).1 h)) ]
-
-module _ {P N : Type 0} where
-  pub settled_taken : (v : Verdict P N) → Settled v ≡ Taken → ⊥
-  settled_taken v q = cc
-
-  pub settled_untaken : (v : Verdict P N) → Settled v ≡ Untaken → ⊥
-  settled_untaken v q = cc
-
-  pub taken_untaken : ◌≡◌ {A = Mark P N} Taken Untaken → ⊥
-  taken_untaken q = cc
-
-  pub same_verdict : (v w : Verdict P N) → Settled v ≡ Settled w → v ≡ w
-  same_verdict v w q = cc
-
-  pub untaken_decided : (m : Mark P N) → IsDecided (m ≡ Untaken)
-  untaken_decided Untaken = inl refl
-  untaken_decided Taken = inr taken_untaken
-  untaken_decided (Settled v) = inr (settled_untaken v)
-
-  pub taken_decided : (m : Mark P N) → IsDecided (m ≡ Taken)
-  taken_decided Untaken = inr (λ q. taken_untaken (sym q))
-  taken_decided Taken = inl refl
-  taken_decided (Settled v) = inr (settled_taken v)
-
-  module _ (s t : CoreState P N) (W : Obl P → Type 0) (old new : Mark P N) (r : Remarks s t W old new) where
-    -- what is known after a remark was known before, and the other way round
-    pub remarked_known : (o : Obl P) (m : Mark P N) → HasMark t o m → IsKnown s o
-    remarked_known o m h = elim ((r o m).0 h) [ inl x ↦ (old, x.1) | inr x ↦ (m, x.0) ]
-
-    pub known_remarked : (o : Obl P) (m : Mark P N) → HasMark s o m → IsDecided ((m ≡ old) × W o) → IsKnown t o
-    known_remarked o m h d = elim d [
-      | inl x ↦ (new, (r o new).1 (inl (refl, subst (λ (k : Mark P N). HasMark s o k) x.0 h, x.1)))
-      | inr x ↦ (m, (r o m).1 (inr (h, x)))
-    ]
-
-    pub settled_before : ((v : Verdict P N) → Settled v ≡ new → ⊥) → (o : Obl P) (v : Verdict P N) → IsSettled t o v → IsSettled s o v
-    settled_before other o v h = elim ((r o (Settled v)).0 h) [ inl x ↦ absurd (other v x.0) | inr x ↦ x.0 ]
-
-    pub one_mark_after : ((o : Obl P) (m n : Mark P N) → HasMark s o m → HasMark s o n → m ≡ n) → (o : Obl P) (m n : Mark P N) → HasMark t o m → HasMark t o n → m ≡ n
-    one_mark_after one o m n h k = elim ((r o m).0 h) [
-      | inl x ↦ elim ((r o n).0 k) [ inl y ↦ x.0 ∙ sym y.0 | inr y ↦ absurd (y.1 (one o n old y.0 x.1, x.2)) ]
-      | inr x ↦ elim ((r o n).0 k) [ inl y ↦ absurd (x.1 (one o m old x.0 y.1, y.2)) | inr y ↦ one o m n x.0 y.0 ]
-    ]
