@@ -7,13 +7,13 @@ use Rattle.po_ir.specs.declared.graph.Node.{Node}
 use Rattle.po_ir.specs.declared.graph.Reg.{Reg as Register}
 use Rattle.po_ir.specs.declared.project.Function.{Function}
 use Rattle.po_ir.specs.declared.project.Project.{Project}
-use Rattle.po_app.specs.declared.pred.Atom.{Atom}
-use Rattle.po_app.specs.declared.pred.Atom.TheVariants.{Reg, Param}
-use Rattle.po_app.specs.declared.pred.Place.{Place}
-use Rattle.po_app.specs.declared.pred.Over.{Over}
-use Rattle.po_app.specs.declared.pred.Over.TheVariants.{Add, Sub, Mul, Div, Rem}
-use Rattle.po_app.specs.declared.pred.Pred.{Pred}
-use Rattle.po_app.specs.declared.pred.Pred.TheVariants.{Nonzero, NoOver}
+use Rattle.po_pred.specs.declared.pred.Atom.{Atom}
+use Rattle.po_pred.specs.declared.pred.Atom.TheVariants.{Reg, Param}
+use Rattle.po_pred.specs.declared.pred.Place.{Place}
+use Rattle.po_pred.specs.declared.pred.Over.{Over}
+use Rattle.po_pred.specs.declared.pred.Over.TheVariants.{Add, Sub, Mul, Div, Rem}
+use Rattle.po_pred.specs.declared.pred.Pred.{Pred}
+use Rattle.po_pred.specs.declared.pred.Pred.TheVariants.{Nonzero, NoOver}
 use Rattle.po_app.specs.declared.report.Cause.{Cause}
 use Rattle.po_app.specs.declared.report.Cause.TheVariants.{Primary, Support}
 use Rattle.po_app.specs.declared.report.Obl.{Obl}

@@ -5,7 +5,6 @@ mod discharge;
 mod laws;
 mod lowering;
 mod out;
-mod pred;
 mod primary;
 mod range;
 mod report;

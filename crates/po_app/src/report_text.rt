@@ -5,13 +5,13 @@ ghost use Rattle.po_app.specs.ReportText as shown;
 ghost use Rattle.po_app.specs.Written.{tally_text};
 
 use crate::out::Out;
-use crate::pred::Pred;
 use crate::primary::predicates;
 use crate::report::{Cause, Obl, Rule, Ruling, Verdict};
 use crate::spell::add_predicate;
 use crate::tally::Tally;
 use po_base::Memory;
 use po_ir::{Function, Node, Project, Reg};
+use po_pred::Pred;
 use std::alloc::Global;
 
 fn add_rule(out: &mut Out, rule: Rule) -> Result<(), Memory>

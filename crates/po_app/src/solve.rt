@@ -6,13 +6,13 @@ ghost use Rattle.po_app.specs.Written.{Writes, HasReport};
 
 use crate::discharge::verdict;
 use crate::out::Out;
-use crate::pred::Pred;
 use crate::primary::predicates;
 use crate::report::{Cause, Obl, Ruling};
 use crate::report_text::{add_rulings, add_total};
 use crate::tally::Tally;
 use po_base::{FunNo, List, Memory, NodeNo};
 use po_ir::{Function, Node, Project};
+use po_pred::Pred;
 use std::alloc::Global;
 
 /// The text of a report, and how many obligations it leaves open.

@@ -2,9 +2,9 @@ ghost use Rattle.std.specs.Prelude.{◌≡◌, ◌++◌, OnOk, take, count_by, i
 ghost use Rattle.po_app.specs.ReportText as report_text;
 
 use crate::out::Out;
-use crate::pred::{Atom, Over, Place, Pred};
 use po_base::{Memory, RegNo};
 use po_ir::Reg;
+use po_pred::{Atom, Over, Place, Pred};
 
 /// Adds a register's name, or `%k` where it is the k-th without a name. In time linear in the registers
 /// before it.
