@@ -5,7 +5,7 @@ use Rattle.std.specs.Int.{int_min, int_max}
 use Rattle.std.proofs.lemmas.Int.{ints, clamps}
 use Rattle.std.proofs.Math.Nat.{mul-le-mul_right}
 use Rattle.std.proofs.Math.IntN.{pos-*ℤ-pos, negsuc-*ℤ-pos, neg_ℤ, neg_ℤ-neg_ℤ, *ℤ_comm, *ℤ-negsuc, *ℤ-zero}
-use Rattle.po_app.specs.declared.range.Range.{Range}
+use Rattle.po_arith.specs.declared.range.Range.{Range}
 use Rattle.po_app.specs.Ranges.{IsIn}
 use Rattle.po_app.specs.Corners.{least_of, greatest_of, products}
 

@@ -2,9 +2,9 @@
 use Rattle.std.proofs.Common.{◌≡◌, ◌⊎◌, inl, inr, ◌↔◌, ℕ, arith, sym, refl, subst, Bool, IsTrue}
 use Rattle.std.specs.Prelude.{ℤ, ◌≤ℤ◌, ◌<ℤ◌, ◌+ℤ◌, ◌*ℤ◌, ◌-ℤ◌, neg_ℤ, pos, negsuc}
 use Rattle.std.proofs.lemmas.Int.{ints, clamps}
-use Rattle.po_app.specs.declared.range.Range.{Range}
-use Rattle.po_app.specs.declared.pred.Over.{Over}
-use Rattle.po_app.specs.declared.pred.Over.TheVariants.{Add, Sub, Mul, Div, Rem}
+use Rattle.po_arith.specs.declared.range.Range.{Range}
+use Rattle.po_pred.specs.declared.pred.Over.{Over}
+use Rattle.po_pred.specs.declared.pred.Over.TheVariants.{Add, Sub, Mul, Div, Rem}
 use Rattle.po_app.specs.Predicates.{IsOfType, half}
 use Rattle.po_app.specs.Ranges.{IsIn, IsSmallRange, NeverLeaves}
 use Rattle.po_app.specs.Corners.{sums, differences, products, least_of, greatest_of}

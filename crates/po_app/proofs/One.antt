@@ -13,7 +13,7 @@ use Rattle.po_straight.specs.declared.expression.Expression.{Expression, fold-Ex
 use Rattle.po_straight.specs.declared.expression.Expression.TheVariants as e
 use Rattle.po_straight.specs.declared.expression.Expression.TheOpen.{Expression-F}
 use Rattle.po_straight.specs.declared.definition.Definition.{Definition}
-use Rattle.po_app.specs.declared.pred.Pred.{Pred}
+use Rattle.po_pred.specs.declared.pred.Pred.{Pred}
 use Rattle.po_app.specs.declared.report.Rule.TheVariants.{Range}
 use Rattle.po_app.specs.declared.report.Verdict.{Verdict}
 use Rattle.po_app.specs.declared.report.Verdict.TheVariants.{Closed, Delegated, Open}

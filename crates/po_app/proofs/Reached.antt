@@ -3,8 +3,8 @@ use Rattle.std.proofs.Common.{◌≡◌, arith, sym, subst}
 use Rattle.std.specs.Prelude.{ℤ, ◌≤ℤ◌, ◌+ℤ◌, ◌-ℤ◌, neg_ℤ, pos, Some}
 use Rattle.std.specs.Int.{int_max}
 use Rattle.std.proofs.lemmas.Int.{ints, clamps}
-use Rattle.po_app.specs.declared.pred.Atom.{Atom}
-use Rattle.po_app.specs.declared.pred.Place.{Place}
+use Rattle.po_pred.specs.declared.pred.Atom.{Atom}
+use Rattle.po_pred.specs.declared.pred.Place.{Place}
 use Rattle.po_app.specs.Predicates.{MayBe, MayBeFrom}
 
 pub atom_reaches : (p : Place) (a : Atom) (v : ℤ) → p.atom ≡ Some a → p.lo ≤ℤ p.hi →

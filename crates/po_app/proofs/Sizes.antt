@@ -3,7 +3,7 @@ use Rattle.std.proofs.Common.{◌≤◌, ◌^◌, ℕ, arith}
 use Rattle.std.specs.Prelude.{ℤ, ◌≤ℤ◌, neg_ℤ, pos, negsuc}
 use Rattle.std.specs.Int.RustNames.{unsigned_abs}
 use Rattle.std.proofs.lemmas.Int.{ints}
-use Rattle.po_app.specs.declared.range.Range.{Range}
+use Rattle.po_arith.specs.declared.range.Range.{Range}
 use Rattle.po_app.specs.Ranges.{IsSmallRange}
 
 pub size : (b : ℕ) (v : ℤ) → neg_ℤ (pos b) ≤ℤ v → v ≤ℤ pos b → unsigned_abs v ≤ b

@@ -1,11 +1,11 @@
 -- The predicates of an operator on small numbers are small.
 use Rattle.std.proofs.Common.{◌≡◌, List, [], ◌∷◌, Bool, true, false, cond, arith, Some, ◌++◌, ap, ◌∙◌}
 use Rattle.std.proofs.lemmas.List.Elements.{All-nil, All-cons}
-use Rattle.po_ir.specs.declared.int_type.IntType.{IntType}
-use Rattle.po_app.specs.declared.pred.Place.{Place}
-use Rattle.po_app.specs.declared.pred.Over.{Over}
-use Rattle.po_app.specs.declared.pred.Pred.{Pred}
-use Rattle.po_app.specs.declared.pred.Pred.TheVariants.{Nonzero, NoOver}
+use Rattle.po_arith.specs.declared.int_type.IntType.{IntType}
+use Rattle.po_pred.specs.declared.pred.Place.{Place}
+use Rattle.po_pred.specs.declared.pred.Over.{Over}
+use Rattle.po_pred.specs.declared.pred.Pred.{Pred}
+use Rattle.po_pred.specs.declared.pred.Pred.TheVariants.{Nonzero, NoOver}
 use Rattle.po_app.specs.Obligations.{division}
 use Rattle.po_app.specs.Ranges.{AreSmall, AreSmallOf, IsSmallPredicate}
 

@@ -1,7 +1,7 @@
 -- The ends of sums, differences and products of two ranges.
 use Rattle.std.specs.Prelude.{ℤ, ◌+ℤ◌, ◌-ℤ◌, ◌*ℤ◌}
 use Rattle.std.specs.Int.{int_min, int_max}
-use Rattle.po_app.specs.declared.range.Range.{Range}
+use Rattle.po_arith.specs.declared.range.Range.{Range}
 
 abbrev pub sums : Range → Range → Range
 sums a b = record { lo = a.lo +ℤ b.lo; hi = a.hi +ℤ b.hi }

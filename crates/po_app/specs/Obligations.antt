@@ -5,19 +5,19 @@ use Rattle.po_base.specs.declared.operators.Op.{Op}
 use Rattle.po_base.specs.declared.operators.Op.TheVariants as op
 use Rattle.po_base.specs.declared.operand.Opnd.{Opnd}
 use Rattle.po_base.specs.declared.operand.Opnd.TheVariants.{Reg, Num}
-use Rattle.po_ir.specs.declared.int_type.IntType.{IntType}
+use Rattle.po_arith.specs.declared.int_type.IntType.{IntType}
 use Rattle.po_ir.specs.declared.instr.Ty.TheVariants.{Int, Ptr}
 use Rattle.po_ir.specs.declared.instr.Instr.{Instr}
 use Rattle.po_ir.specs.declared.instr.Instr.TheVariants.{Bin, Return}
 use Rattle.po_ir.specs.declared.graph.Node.{Node}
 use Rattle.po_ir.specs.declared.project.Function.{Function}
 use Rattle.po_ir.specs.declared.project.Project.{Project}
-use Rattle.po_app.specs.declared.pred.Atom.TheVariants as atom
-use Rattle.po_app.specs.declared.pred.Place.{Place}
-use Rattle.po_app.specs.declared.pred.Over.{Over}
-use Rattle.po_app.specs.declared.pred.Over.TheVariants.{Add, Sub, Mul, Div, Rem}
-use Rattle.po_app.specs.declared.pred.Pred.{Pred}
-use Rattle.po_app.specs.declared.pred.Pred.TheVariants.{Nonzero, NoOver}
+use Rattle.po_pred.specs.declared.pred.Atom.TheVariants as atom
+use Rattle.po_pred.specs.declared.pred.Place.{Place}
+use Rattle.po_pred.specs.declared.pred.Over.{Over}
+use Rattle.po_pred.specs.declared.pred.Over.TheVariants.{Add, Sub, Mul, Div, Rem}
+use Rattle.po_pred.specs.declared.pred.Pred.{Pred}
+use Rattle.po_pred.specs.declared.pred.Pred.TheVariants.{Nonzero, NoOver}
 use Rattle.po_app.specs.declared.report.Cause.{Cause}
 use Rattle.po_app.specs.declared.report.Cause.TheVariants.{Primary, Support}
 use Rattle.po_app.specs.declared.report.Obl.{Obl}

@@ -1,11 +1,11 @@
 -- Predicates on whole numbers, and the values that the places of a predicate may have.
 use Rattle.std.specs.Prelude.{ℕ, ◌-◌, ◌^◌, ◌≡◌, ◌≢◌, ℤ, pos, negsuc, neg_ℤ, ◌+ℤ◌, ◌-ℤ◌, ◌*ℤ◌, ◌≤ℤ◌, ◌<ℤ◌, Option, Some, None}
-use Rattle.po_app.specs.declared.pred.Atom.{Atom}
-use Rattle.po_app.specs.declared.pred.Place.{Place}
-use Rattle.po_app.specs.declared.pred.Over.{Over}
-use Rattle.po_app.specs.declared.pred.Over.TheVariants.{Add, Sub, Mul, Div, Rem}
-use Rattle.po_app.specs.declared.pred.Pred.{Pred}
-use Rattle.po_app.specs.declared.pred.Pred.TheVariants.{Nonzero, NoOver}
+use Rattle.po_pred.specs.declared.pred.Atom.{Atom}
+use Rattle.po_pred.specs.declared.pred.Place.{Place}
+use Rattle.po_pred.specs.declared.pred.Over.{Over}
+use Rattle.po_pred.specs.declared.pred.Over.TheVariants.{Add, Sub, Mul, Div, Rem}
+use Rattle.po_pred.specs.declared.pred.Pred.{Pred}
+use Rattle.po_pred.specs.declared.pred.Pred.TheVariants.{Nonzero, NoOver}
 
 -- half of the numbers of the integer types of this width
 abbrev pub half : ℕ → ℕ

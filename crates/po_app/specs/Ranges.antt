@@ -2,17 +2,17 @@
 use Rattle.std.specs.Prelude.{ℕ, ◌^◌, ◌<◌, ◌≤◌, ◌≡◌, ◌⊎◌, ℤ, pos, neg_ℤ, ◌≤ℤ◌, Option, Some, None, List, All, length}
 use Rattle.po_base.specs.declared.operand.Opnd.{Opnd}
 use Rattle.po_base.specs.declared.operand.Opnd.TheVariants.{Reg, Num}
-use Rattle.po_ir.specs.declared.int_type.IntType.{IntType}
+use Rattle.po_arith.specs.declared.int_type.IntType.{IntType}
 use Rattle.po_ir.specs.declared.instr.Ty.TheVariants.{Int, Ptr}
 use Rattle.po_ir.specs.declared.instr.Instr.{Instr}
 use Rattle.po_ir.specs.declared.instr.Instr.TheVariants.{Bin, Return}
 use Rattle.po_ir.specs.declared.project.Function.{Function}
 use Rattle.po_ir.specs.declared.project.Project.{Project}
-use Rattle.po_app.specs.declared.range.Range.{Range}
-use Rattle.po_app.specs.declared.pred.Place.{Place}
-use Rattle.po_app.specs.declared.pred.Over.{Over}
-use Rattle.po_app.specs.declared.pred.Pred.{Pred}
-use Rattle.po_app.specs.declared.pred.Pred.TheVariants.{Nonzero, NoOver}
+use Rattle.po_arith.specs.declared.range.Range.{Range}
+use Rattle.po_pred.specs.declared.pred.Place.{Place}
+use Rattle.po_pred.specs.declared.pred.Over.{Over}
+use Rattle.po_pred.specs.declared.pred.Pred.{Pred}
+use Rattle.po_pred.specs.declared.pred.Pred.TheVariants.{Nonzero, NoOver}
 use Rattle.po_app.specs.Predicates.{Fits}
 
 abbrev pub IsIn : Range → ℤ → Type 0

@@ -1,19 +1,12 @@
 -- The text of a report.
-use Rattle.std.specs.Prelude.{ℕ, ℤ, pos, negsuc, ◌++◌, ◌==◌, List, [], codes, take, count_by, length, Option, Some, None, Bool, true, false, slice_get, cond, is_none}
+use Rattle.std.specs.Prelude.{ℕ, ◌++◌, List, [], codes, count_by, length, map, Option, Some, None, Bool, true, false, slice_get}
 use Rattle.std.specs.List.{flat_map}
-use Rattle.std.specs.Fmt.{decimal, signed_decimal}
-use Rattle.std.specs.Ordering.{int_eq}
+use Rattle.std.specs.Fmt.{decimal}
 use Rattle.po_ir.specs.declared.graph.Node.{Node}
-use Rattle.po_ir.specs.declared.graph.Reg.{Reg as Register}
 use Rattle.po_ir.specs.declared.project.Function.{Function}
 use Rattle.po_ir.specs.declared.project.Project.{Project}
-use Rattle.po_app.specs.declared.pred.Atom.{Atom}
-use Rattle.po_app.specs.declared.pred.Atom.TheVariants.{Reg, Param}
-use Rattle.po_app.specs.declared.pred.Place.{Place}
-use Rattle.po_app.specs.declared.pred.Over.{Over}
-use Rattle.po_app.specs.declared.pred.Over.TheVariants.{Add, Sub, Mul, Div, Rem}
-use Rattle.po_app.specs.declared.pred.Pred.{Pred}
-use Rattle.po_app.specs.declared.pred.Pred.TheVariants.{Nonzero, NoOver}
+use Rattle.po_pred.specs.declared.pred.Pred.{Pred}
+use Rattle.po_pred.specs.Spelling.{Names, predicate_text}
 use Rattle.po_app.specs.declared.report.Cause.{Cause}
 use Rattle.po_app.specs.declared.report.Cause.TheVariants.{Primary, Support}
 use Rattle.po_app.specs.declared.report.Obl.{Obl}
@@ -26,71 +19,17 @@ use Rattle.po_app.specs.declared.report.Assumption.{Assumption}
 use Rattle.po_app.specs.declared.report.Report.{Report}
 use Rattle.po_app.specs.Obligations.{function_of, node_of, predicate_of}
 
--- `%k`, where k registers without a name stand before
-abbrev pub temporary_text : List Register → List ℕ
-temporary_text before = codes "%" ++ decimal (count_by (λ r. is_none r.name) before)
-
-abbrev pub name_text : Option (List ℕ) → List Register → List ℕ
-name_text None before = temporary_text before
-name_text (Some name) before = name
-
-abbrev pub found_text : Option Register → List Register → List ℕ
-found_text None before = temporary_text before
-found_text (Some r) before = name_text r.name before
-
--- a register's name, or `%k` with k the number of registers without a name before it
-abbrev pub register_text : List Register → ℕ → List ℕ
-register_text regs r = found_text (slice_get regs r) (take r regs)
-
-abbrev pub atom_text : List Register → Atom → List ℕ
-atom_text regs (Reg r) = register_text regs r.0
-atom_text regs (Param i) = codes "$" ++ decimal i
-
-abbrev pub with_sign : ℤ → List ℕ
-with_sign (pos n) = codes "+" ++ decimal n
-with_sign (negsuc n) = signed_decimal (negsuc n)
-
--- a number or a range of numbers
-abbrev pub range_text : ℤ → ℤ → List ℕ
-range_text lo hi = cond (int_eq lo hi) (signed_decimal lo) (signed_decimal lo ++ (codes ".." ++ signed_decimal hi))
-
--- what follows an atom: nothing, one offset, or a range of them
-abbrev pub offset_text : ℤ → ℤ → List ℕ
-offset_text lo hi = cond (int_eq lo hi) (cond (int_eq lo (pos 0)) [] (with_sign lo)) (with_sign lo ++ (codes ".." ++ signed_decimal hi))
-
-abbrev pub atom_place_text : Option Atom → List Register → Place → List ℕ
-atom_place_text None regs p = range_text p.lo p.hi
-atom_place_text (Some a) regs p = atom_text regs a ++ offset_text p.lo p.hi
-
-abbrev pub place_text : List Register → Place → List ℕ
-place_text regs p = atom_place_text p.atom regs p
-
-abbrev pub operator_text : Over → List ℕ
-operator_text Add = codes "add"
-operator_text Sub = codes "sub"
-operator_text Mul = codes "mul"
-operator_text Div = codes "div"
-operator_text Rem = codes "rem"
-
-abbrev pub width_text : ℕ → List ℕ
-width_text bits = cond (bits == 64) (codes "64") []
-
-abbrev pub second_text : List Register → Option Place → List ℕ
-second_text regs None = []
-second_text regs (Some b) = codes "," ++ place_text regs b
-
-abbrev pub predicate_text : List Register → Pred → List ℕ
-predicate_text regs (Nonzero x) = codes "nonzero(" ++ (place_text regs x ++ codes ")")
-predicate_text regs (NoOver op bits a b) =
-    codes "no_over(" ++ (operator_text op ++ (width_text bits ++ (codes "," ++ (place_text regs a ++ (second_text regs b ++ codes ")")))))
+-- the names of a function's registers
+abbrev pub names_of : Function → Names
+names_of f = map (λ r. r.name) f.graph.regs
 
 abbrev pub rule_text : Rule → List ℕ
 rule_text Range = codes "range"
 
-abbrev pub verdict_text : List Register → Verdict → List ℕ
-verdict_text regs (Closed rule) = codes "closed " ++ rule_text rule
-verdict_text regs (Delegated q) = codes "delegated " ++ predicate_text regs q
-verdict_text regs Open = codes "open"
+abbrev pub verdict_text : Names → Verdict → List ℕ
+verdict_text names (Closed rule) = codes "closed " ++ rule_text rule
+verdict_text names (Delegated q) = codes "delegated " ++ predicate_text names q
+verdict_text names Open = codes "open"
 
 -- the place of an obligation among those of its node
 abbrev pub index_of : Cause → ℕ
@@ -103,7 +42,7 @@ obligation_text f n o = n.spot.file ++ codes ":" ++ decimal n.spot.line ++ codes
 
 -- FILE:LINE FUNCTION NODE.INDEX PREDICATE STATUS
 abbrev pub line_text : Function → Node → Pred → Ruling → List ℕ
-line_text f n q x = obligation_text f n x.obl ++ codes " " ++ predicate_text f.graph.regs q ++ codes " " ++ verdict_text f.graph.regs x.verdict ++ codes "\n"
+line_text f n q x = obligation_text f n x.obl ++ codes " " ++ predicate_text (names_of f) q ++ codes " " ++ verdict_text (names_of f) x.verdict ++ codes "\n"
 
 abbrev pub found_line : Option Function → Option Node → Option Pred → Ruling → List ℕ
 found_line (Some f) (Some n) (Some q) x = line_text f n q x
@@ -115,7 +54,7 @@ ruling_text p x = found_line (function_of p x.obl) (node_of p x.obl) (predicate_
 -- FILE as it was given
 abbrev pub assuming_text : Option (List ℕ) → Function → Assumption → List ℕ
 assuming_text None f a = []
-assuming_text (Some file) f a = codes "assume " ++ (file ++ (codes " " ++ (f.name ++ (codes " " ++ (predicate_text f.graph.regs a.pred ++ codes "\n")))))
+assuming_text (Some file) f a = codes "assume " ++ (file ++ (codes " " ++ (f.name ++ (codes " " ++ (predicate_text (names_of f) a.pred ++ codes "\n")))))
 
 abbrev pub found_assumption : Project → Option Function → Assumption → List ℕ
 found_assumption p None a = []

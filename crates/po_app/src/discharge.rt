@@ -3,9 +3,10 @@ ghost use Rattle.po_app.specs.Predicates.{MayBe, SecondMayBe, HoldsForAll};
 ghost use Rattle.po_app.specs.Obligations.{IsVerdict};
 ghost use Rattle.po_app.specs.Ranges.{IsIn, IsSmallPlace, IsSmallSecond, IsSmallPredicate, IsSmallRange};
 
-use crate::pred::{Place, Pred};
-use crate::range::{Range, never_leaves};
+use crate::range::{contains, never_leaves};
 use crate::report::{Rule, Verdict};
+use po_arith::Range;
+use po_pred::{Place, Pred};
 
 /// The values that a place may have: its own numbers, or every int moved by them.
 fn span(place: &Place) -> Range
@@ -45,7 +46,7 @@ fn holds_for_all(predicate: &Pred) -> bool
     ensures { IsTrue result ↔ HoldsForAll predicate.now }
 {
     match predicate {
-        Pred::Nonzero { x } => !span(x).contains(0),
+        Pred::Nonzero { x } => !contains(&span(x), 0),
         Pred::NoOver { op, bits, a, b } => {
             let first = span(a);
             let second = span_of_second(b);

@@ -4,14 +4,12 @@
 mod discharge;
 mod laws;
 mod lowering;
-mod out;
-mod pred;
+mod names;
 mod primary;
 mod range;
 mod report;
 mod report_text;
 mod solve;
-mod spell;
 mod status;
 mod tally;
 mod top;

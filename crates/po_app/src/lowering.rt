@@ -4,8 +4,9 @@ ghost use Rattle.po_app.specs.Lowering.{node_at, parameter_register, temporary_r
 ghost use Rattle.po_app.specs.Lowered.{Appends, IsCounted, IsSmallGraph};
 ghost use Rattle.po_app.specs.Ranges.{IsSmallFunction, IsSmallProject};
 
+use po_arith::IntType;
 use po_base::{FileNo, List, Memory, Opnd, RegNo, Spot, Text};
-use po_ir::{CTypeText, Function, Graph, Instr, IntType, Node, Project, Reg, Ty};
+use po_ir::{CTypeText, Function, Graph, Instr, Node, Project, Reg, Ty};
 use po_straight::{Definition, Expression};
 use std::alloc::Global;
 

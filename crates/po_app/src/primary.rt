@@ -2,9 +2,10 @@ ghost use Rattle.std.specs.Prelude.{◌≡◌, ◌++◌, IfOk, OnOk};
 ghost use Rattle.po_app.specs.Obligations.{place as place_of, overflow as overflow_of, division as division_of, operator_predicates as predicates_of_operator, predicates as predicates_of};
 ghost use Rattle.po_app.specs.Ranges.{AreSmall, AreSmallOf, IsSmallInstr, IsSmallOperand, IsSmallPlace};
 
-use crate::pred::{Atom, Over, Place, Pred};
+use po_arith::IntType;
 use po_base::{List, Memory, Op, Opnd};
-use po_ir::{Instr, IntType, Ty};
+use po_ir::{Instr, Ty};
+use po_pred::{Atom, Over, Place, Pred};
 use std::alloc::Global;
 
 fn place(operand: &Opnd) -> Place

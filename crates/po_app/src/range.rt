@@ -4,30 +4,22 @@ ghost use Rattle.po_app.specs.Predicates.{IsOfType, half as half_of};
 ghost use Rattle.po_app.specs.Ranges.{IsIn, IsSmallRange, IsWidth, NeverLeaves};
 ghost use Rattle.po_app.specs.Corners.{sums, differences, products};
 
-use crate::pred::Over;
+use po_arith::Range;
+use po_pred::Over;
 
-/// Whole numbers from `lo` to `hi`, both among them.
-#[derive(Clone, Copy, Debug, PartialEq, Eq)]
-pub struct Range {
-    pub lo: i128,
-    pub hi: i128,
+pub(crate) fn contains(range: &Range, v: i128) -> bool
+    ensures { IsTrue result ↔ IsIn range.now v }
+{
+    range.lo <= v && v <= range.hi
 }
 
-impl Range {
-    pub(crate) fn contains(&self, v: i128) -> bool
-        ensures { IsTrue result ↔ IsIn self.now v }
-    {
-        self.lo <= v && v <= self.hi
-    }
-
-    /// Whether both ends are numbers of the signed type of this width.
-    fn is_of_type(&self, bits: u8) -> bool
-        requires { IsWidth bits }
-        ensures { IsTrue result ↔ (IsOfType bits self.now.lo × IsOfType bits self.now.hi) }
-    {
-        let half = half(bits);
-        -half <= self.lo && self.lo < half && -half <= self.hi && self.hi < half
-    }
+/// Whether both ends are numbers of the signed type of this width.
+fn is_of_type(range: &Range, bits: u8) -> bool
+    requires { IsWidth bits }
+    ensures { IsTrue result ↔ (IsOfType bits range.now.lo × IsOfType bits range.now.hi) }
+{
+    let half = half(bits);
+    -half <= range.lo && range.lo < half && -half <= range.hi && range.hi < half
 }
 
 /// Half of the numbers of the integer types of this width.
@@ -95,7 +87,7 @@ fn never_least_by_minus_one(bits: u8, a: &Range, b: &Range) -> bool
     requires { IsWidth bits }
     ensures { IsTrue result ↔ ((IsIn a.now (neg_ℤ (pos (half_of bits))) × IsIn b.now (negsuc 0)) → ⊥) }
 {
-    !(a.contains(-half(bits)) && b.contains(-1))
+    !(contains(a, -half(bits)) && contains(b, -1))
 }
 
 /// Whether no result of numbers of the two ranges leaves the signed type of this width. In constant time.
@@ -106,9 +98,9 @@ pub(crate) fn never_leaves(op: Over, bits: u8, a: &Range, b: &Range) -> bool
     ensures { IsTrue result ↔ NeverLeaves op bits a.now b.now }
 {
     match op {
-        Over::Add => sum(a, b).is_of_type(bits),
-        Over::Sub => difference(a, b).is_of_type(bits),
-        Over::Mul => product(a, b).is_of_type(bits),
+        Over::Add => is_of_type(&sum(a, b), bits),
+        Over::Sub => is_of_type(&difference(a, b), bits),
+        Over::Mul => is_of_type(&product(a, b), bits),
         Over::Div => never_least_by_minus_one(bits, a, b),
         Over::Rem => never_least_by_minus_one(bits, a, b),
     }

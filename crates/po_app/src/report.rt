@@ -1,5 +1,5 @@
-use crate::pred::Pred;
 use po_base::{FunNo, List, NodeNo};
+use po_pred::Pred;
 
 /// From what an obligation comes: the operation of its node, by its place among the node's predicates, or
 /// an assumption of the called function.

@@ -1,17 +1,16 @@
-ghost use Rattle.std.specs.Prelude.{◌≡◌, ◌++◌, IfOk, OnOk, Some};
+ghost use Rattle.std.specs.Prelude.{◌≡◌, ◌++◌, IfOk, OnOk, Some, map};
 ghost use Rattle.std.specs.List.{flat_map};
 ghost use Rattle.po_app.specs.Obligations.{caused as predicate_caused};
 ghost use Rattle.po_app.specs.ReportText as shown;
 ghost use Rattle.po_app.specs.Written.{tally_text};
+ghost use Rattle.po_pred.specs.Spelling.{predicate_text};
 
-use crate::out::Out;
-use crate::pred::Pred;
 use crate::primary::predicates;
 use crate::report::{Cause, Obl, Rule, Ruling, Verdict};
-use crate::spell::add_predicate;
 use crate::tally::Tally;
-use po_base::Memory;
-use po_ir::{Function, Node, Project, Reg};
+use po_base::{List, Memory, Text};
+use po_ir::{Function, Node, Project};
+use po_pred::{Out, Pred, spell};
 use std::alloc::Global;
 
 fn add_rule(out: &mut Out, rule: Rule) -> Result<(), Memory>
@@ -22,8 +21,25 @@ fn add_rule(out: &mut Out, rule: Rule) -> Result<(), Memory>
     }
 }
 
-fn add_verdict(out: &mut Out, regs: &[Reg], verdict: &Verdict) -> Result<(), Memory>
-    ensures { OnOk result (out.new ≡ out.old ++ shown.verdict_text regs.now verdict.now) }
+fn add_predicate(
+    alloc: Global,
+    out: &mut Out,
+    names: &[Option<Text>],
+    predicate: &Pred,
+) -> Result<(), Memory>
+    ensures { OnOk result (out.new ≡ out.old ++ predicate_text names.now predicate.now) }
+{
+    let text = spell(alloc, predicate, names)?;
+    out.add(text.bytes())
+}
+
+fn add_verdict(
+    alloc: Global,
+    out: &mut Out,
+    names: &[Option<Text>],
+    verdict: &Verdict,
+) -> Result<(), Memory>
+    ensures { OnOk result (out.new ≡ out.old ++ shown.verdict_text names.now verdict.now) }
 {
     match verdict {
         Verdict::Closed(rule) => {
@@ -32,7 +48,7 @@ fn add_verdict(out: &mut Out, regs: &[Reg], verdict: &Verdict) -> Result<(), Mem
         }
         Verdict::Delegated(predicate) => {
             out.add(b"delegated ")?;
-            add_predicate(out, regs, predicate)
+            add_predicate(alloc, out, names, predicate)
         }
         Verdict::Open => out.add(b"open"),
     }
@@ -63,21 +79,24 @@ fn add_obligation(out: &mut Out, function: &Function, node: &Node, obl: &Obl) ->
     out.add_number(index_of(&obl.cause))
 }
 
+/// Adds the line of a ruling at a node of the function, whose registers have these names.
 fn add_line(
+    alloc: Global,
     out: &mut Out,
     function: &Function,
+    names: &[Option<Text>],
     node: &Node,
     predicate: &Pred,
     ruling: &Ruling,
 ) -> Result<(), Memory>
+    requires { names.now ≡ shown.names_of function.now }
     ensures { OnOk result (out.new ≡ out.old ++ shown.line_text function.now node.now predicate.now ruling.now) }
 {
-    let regs = function.graph.regs.as_slice();
     add_obligation(out, function, node, &ruling.obl)?;
     out.add(b" ")?;
-    add_predicate(out, regs, predicate)?;
+    add_predicate(alloc, out, names, predicate)?;
     out.add(b" ")?;
-    add_verdict(out, regs, &ruling.verdict)?;
+    add_verdict(alloc, out, names, &ruling.verdict)?;
     out.add(b"\n")
 }
 
@@ -99,11 +118,14 @@ fn add_ruling(
     alloc: Global,
     out: &mut Out,
     project: &Project,
+    names: &[List<Option<Text>>],
     ruling: &Ruling,
 ) -> Result<(), Memory>
+    requires { names.now ≡ map shown.names_of project.now.functions }
     ensures { OnOk result (out.new ≡ out.old ++ shown.ruling_text project.now ruling.now) }
 {
-    let Some(function) = project.functions.get(ruling.obl.fun.0 as usize) else {
+    let fun = ruling.obl.fun.0 as usize;
+    let Some(function) = project.functions.get(fun) else {
         return Ok(());
     };
     let Some(node) = function.graph.nodes.get(ruling.obl.node.0 as usize) else {
@@ -112,7 +134,8 @@ fn add_ruling(
     let Some(predicate) = predicate_of(alloc, node, &ruling.obl.cause)? else {
         return Ok(());
     };
-    add_line(out, function, node, &predicate, ruling)
+    let own_names = names[fun].as_slice();
+    add_line(alloc, out, function, own_names, node, &predicate, ruling)
 }
 
 fn add_counted(out: &mut Out, label: &[u8], count: usize) -> Result<(), Memory>
@@ -133,18 +156,20 @@ pub(crate) fn add_total(out: &mut Out, tally: &Tally) -> Result<(), Memory>
     out.add(b"\n")
 }
 
-/// Adds the lines of rulings on obligations of the project. In time linear in the text and, for the numbers of
+/// Adds the lines of rulings on obligations of the project, whose functions' registers have these names. In time linear in the text and, for the numbers of
 /// temporaries, in the registers of each line's function.
 pub(crate) fn add_rulings(
     alloc: Global,
     out: &mut Out,
     project: &Project,
+    names: &[List<Option<Text>>],
     rulings: &[Ruling],
 ) -> Result<(), Memory>
+    requires { names.now ≡ map shown.names_of project.now.functions }
     ensures { OnOk result (out.new ≡ out.old ++ flat_map (shown.ruling_text project.now) rulings.now) }
 {
     for ruling in rulings {
-        add_ruling(alloc, out, project, ruling)?;
+        add_ruling(alloc, out, project, names, ruling)?;
     }
     Ok(())
 }

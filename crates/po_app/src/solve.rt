@@ -1,18 +1,19 @@
-ghost use Rattle.std.specs.Prelude.{◌≡◌, ◌<◌, ◌^◌, [], length, IfOk, OnOk, Some, slice_get};
+ghost use Rattle.std.specs.Prelude.{◌≡◌, ◌<◌, ◌^◌, [], length, IfOk, OnOk, Some, slice_get, map};
 ghost use Rattle.po_app.specs.Obligations.{IsRuling, primary, node_obligations, function_obligations, obligations};
 ghost use Rattle.po_app.specs.Ranges.{IsSmallFunction, IsSmallInstr, IsSmallPredicate, IsSmallProject};
 ghost use Rattle.po_app.specs.Rulings.{Rules};
+ghost use Rattle.po_app.specs.ReportText.{names_of};
 ghost use Rattle.po_app.specs.Written.{Writes, HasReport};
 
 use crate::discharge::verdict;
-use crate::out::Out;
-use crate::pred::Pred;
+use crate::names::all_names;
 use crate::primary::predicates;
 use crate::report::{Cause, Obl, Ruling};
 use crate::report_text::{add_rulings, add_total};
 use crate::tally::Tally;
-use po_base::{FunNo, List, Memory, NodeNo};
+use po_base::{FunNo, List, Memory, NodeNo, Text};
 use po_ir::{Function, Node, Project};
+use po_pred::{Out, Pred};
 use std::alloc::Global;
 
 /// The text of a report, and how many obligations it leaves open.
@@ -76,17 +77,19 @@ fn rule_function(
 fn write_function(
     alloc: Global,
     project: &Project,
+    names: &[List<Option<Text>>],
     fun: FunNo,
     function: &Function,
     out: &mut Out,
     tally: &mut Tally,
 ) -> Result<(), Memory>
-    requires { IsSmallFunction function.now }
+    requires names { names.now ≡ map names_of project.now.functions }
+    requires small { IsSmallFunction function.now }
     ensures { OnOk result (Writes project.now (function_obligations fun.0 function.now) out.old tally.old out.new tally.new) }
 {
     let mut rulings = List::new(alloc);
     rule_function(alloc, fun, function, &mut rulings)?;
-    add_rulings(alloc, out, project, rulings.as_slice())?;
+    add_rulings(alloc, out, project, names, rulings.as_slice())?;
     tally.add(rulings.as_slice())
 }
 
@@ -94,27 +97,31 @@ fn write_function(
 fn write_functions(
     alloc: Global,
     project: &Project,
+    names: &[List<Option<Text>>],
     out: &mut Out,
     tally: &mut Tally,
 ) -> Result<(), Memory>
-    requires { IsSmallProject project.now }
+    requires names { names.now ≡ map names_of project.now.functions }
+    requires small { IsSmallProject project.now }
     ensures { OnOk result (Writes project.now (obligations project.now) out.old tally.old out.new tally.new) }
 {
     for (fun, function) in project.functions.as_slice().iter().enumerate() {
-        write_function(alloc, project, FunNo(fun as u32), function, out, tally)?;
+        let number = FunNo(fun as u32);
+        write_function(alloc, project, names, number, function, out, tally)?;
     }
     Ok(())
 }
 
 /// The text of a project's report, and how many obligations it leaves open. In time linear in the nodes and the
-/// text; beside the text it keeps the rulings of one function at a time.
+/// text; beside the text it keeps a name for each register, and the rulings of one function at a time.
 pub(crate) fn written_report(alloc: Global, project: &Project) -> Result<WrittenReport, Memory>
     requires { IsSmallProject project.now }
     ensures { IfOk result (λ written. HasReport project.now written.text.items written.left_open) }
 {
+    let names = all_names(alloc, project.functions.as_slice())?;
     let mut out = Out::new(alloc);
     let mut tally = Tally::new();
-    write_functions(alloc, project, &mut out, &mut tally)?;
+    write_functions(alloc, project, names.as_slice(), &mut out, &mut tally)?;
     add_total(&mut out, &tally)?;
     Ok(WrittenReport {
         text: out.into_bytes(),

@@ -14,13 +14,13 @@ ghost use Rattle.po_app.specs.Outcome.{named_text, status_by, IsReported, IsRepo
 
 use crate::laws::report_is_sound;
 use crate::lowering::project;
-use crate::out::Out;
 use crate::solve::written_report;
 use crate::status::Status;
 use crate::words::file_to_check;
 use po_base::{List, Memory, Text};
 use po_io::{Files, ReadFail, Sink, read_file, write_all};
 use po_ir::Project;
+use po_pred::Out;
 use po_straight::{Definition, read_definitions};
 use std::alloc::Global;
 

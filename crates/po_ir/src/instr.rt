@@ -1,4 +1,4 @@
-use crate::int_type::IntType;
+use po_arith::IntType;
 use po_base::{Op, Opnd, RegNo};
 
 /// The type of a register or of an access: an integer type, or a pointer.

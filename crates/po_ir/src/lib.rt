@@ -3,10 +3,8 @@
 
 mod graph;
 mod instr;
-mod int_type;
 mod project;
 
 pub use graph::{Graph, Node, Reg, Slot};
 pub use instr::{Instr, Ty};
-pub use int_type::IntType;
 pub use project::{CTypeText, Function, Project};

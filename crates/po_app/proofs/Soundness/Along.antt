@@ -7,7 +7,7 @@ use Rattle.po_ir.specs.declared.project.Function.{Function}
 use Rattle.po_ir.specs.declared.project.Project.{Project}
 use Rattle.po_straight.specs.declared.definition.Definition.{Definition}
 use Rattle.po_straight.specs.Definitions.{IsFile}
-use Rattle.po_app.specs.declared.pred.Pred.{Pred}
+use Rattle.po_pred.specs.declared.pred.Pred.{Pred}
 use Rattle.po_app.specs.declared.report.Obl.{Obl}
 use Rattle.po_app.specs.declared.report.Rule.TheVariants.{Range}
 use Rattle.po_app.specs.declared.report.Verdict.{Verdict}

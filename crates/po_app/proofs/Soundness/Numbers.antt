@@ -5,7 +5,7 @@ use Rattle.std.specs.Int.RustNames.{int_div, int_rem, unsigned_abs}
 use Rattle.std.proofs.lemmas.Int.{ints}
 use Rattle.std.proofs.lemmas.Nat.{div_below}
 use native.Mathlib.Nat.{div-le_self, mod-le}
-use Rattle.po_app.specs.declared.pred.Over.TheVariants.{Div}
+use Rattle.po_pred.specs.declared.pred.Over.TheVariants.{Div}
 use Rattle.po_app.specs.Predicates.{IsOfType, Fits}
 
 below_half : (n : ℕ) → n < 2147483648 → IsOfType 32 (pos n)

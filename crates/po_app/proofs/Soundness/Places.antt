@@ -4,9 +4,9 @@ use Rattle.std.specs.Prelude.{Option, Some, None, ℤ, pos}
 use Rattle.std.proofs.lemmas.Int.{ints}
 use Rattle.po_base.specs.declared.operand.Opnd.{Opnd}
 use Rattle.po_base.specs.declared.operand.Opnd.TheVariants.{Reg, Num}
-use Rattle.po_app.specs.declared.pred.Over.{Over}
-use Rattle.po_app.specs.declared.pred.Pred.{Pred}
-use Rattle.po_app.specs.declared.pred.Pred.TheVariants.{Nonzero, NoOver}
+use Rattle.po_pred.specs.declared.pred.Over.{Over}
+use Rattle.po_pred.specs.declared.pred.Pred.{Pred}
+use Rattle.po_pred.specs.declared.pred.Pred.TheVariants.{Nonzero, NoOver}
 use Rattle.po_app.specs.Predicates.{IsOfType, IsMoved, MayBe, HoldsForAll}
 use Rattle.po_app.specs.Obligations.{place}
 use Rattle.po_app.specs.Meaning.{Value, number, Frame, operand_value, register_value, Chooses, HasNumber, Holds}

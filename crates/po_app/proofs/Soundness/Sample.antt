@@ -11,8 +11,8 @@ use Rattle.po_ir.specs.declared.project.Function.{Function}
 use Rattle.po_ir.specs.declared.project.Project.{Project}
 use Rattle.po_straight.specs.declared.expression.Expression.TheVariants as e
 use Rattle.po_straight.specs.declared.definition.Definition.{Definition}
-use Rattle.po_app.specs.declared.pred.Over.TheVariants.{Div}
-use Rattle.po_app.specs.declared.pred.Pred.TheVariants.{Nonzero, NoOver}
+use Rattle.po_pred.specs.declared.pred.Over.TheVariants.{Div}
+use Rattle.po_pred.specs.declared.pred.Pred.TheVariants.{Nonzero, NoOver}
 use Rattle.po_app.specs.declared.report.Report.{Report}
 use Rattle.po_app.specs.declared.report.Verdict.TheVariants.{Open}
 use Rattle.po_app.specs.Predicates.{IsOfType, MayBe, HoldsForAll}

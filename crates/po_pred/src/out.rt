@@ -1,13 +1,13 @@
 ghost use Rattle.std.specs.Prelude.{◌≡◌, ◌++◌, [], OnOk};
 ghost use Rattle.std.specs.Fmt.{decimal, signed_decimal};
 
-use po_base::{Memory, Text};
+use po_base::Memory;
 use std::alloc::Global;
 use std::marker::Model;
 
 /// A text that is being written, which contracts see as the bytes so far.
 #[derive(Drop)]
-pub(crate) struct Out {
+pub struct Out {
     alloc: Global,
     bytes: Vec<u8>,
 }
@@ -22,7 +22,7 @@ impl Model for Out {
 
 impl Out {
     /// No bytes yet.
-    pub(crate) fn new(alloc: Global) -> Out
+    pub fn new(alloc: Global) -> Out
         ensures { result ≡ [] }
     {
         Out {
@@ -32,15 +32,22 @@ impl Out {
     }
 
     /// The bytes, without a copy.
-    pub(crate) fn into_bytes(self) -> Vec<u8>
+    pub fn into_bytes(self) -> Vec<u8>
         ensures { result.items ≡ self }
     {
         let Out { bytes, .. } = self;
         bytes
     }
 
+    /// The bytes so far.
+    pub fn bytes(&self) -> &[u8]
+        ensures { result.now ≡ self.now }
+    {
+        self.bytes.as_slice()
+    }
+
     /// Adds bytes at the end. After `Memory` the text is good for nothing.
-    pub(crate) fn add(&mut self, bytes: &[u8]) -> Result<(), Memory>
+    pub fn add(&mut self, bytes: &[u8]) -> Result<(), Memory>
         ensures { OnOk result (self.new ≡ self.old ++ bytes.now) }
     {
         self.bytes.extend_from_slice(bytes)?;
@@ -48,7 +55,7 @@ impl Out {
     }
 
     /// Adds a number in decimal.
-    pub(crate) fn add_number(&mut self, number: u32) -> Result<(), Memory>
+    pub fn add_number(&mut self, number: u32) -> Result<(), Memory>
         ensures { OnOk result (self.new ≡ self.old ++ decimal number) }
     {
         let text = number.to_string(self.alloc)?;
@@ -56,7 +63,7 @@ impl Out {
     }
 
     /// Adds a count in decimal.
-    pub(crate) fn add_count(&mut self, count: usize) -> Result<(), Memory>
+    pub fn add_count(&mut self, count: usize) -> Result<(), Memory>
         ensures { OnOk result (self.new ≡ self.old ++ decimal count) }
     {
         let text = count.to_string(self.alloc)?;
@@ -64,7 +71,7 @@ impl Out {
     }
 
     /// Adds a whole number in decimal, with `-` where it is negative.
-    pub(crate) fn add_whole(&mut self, number: i128) -> Result<(), Memory>
+    pub fn add_whole(&mut self, number: i128) -> Result<(), Memory>
         ensures { OnOk result (self.new ≡ self.old ++ signed_decimal number) }
     {
         let text = number.to_string(self.alloc)?;

@@ -1,0 +1,5 @@
+pub mod Types
+pub mod Division
+pub mod Shifts
+pub mod Bits
+pub mod Hull
