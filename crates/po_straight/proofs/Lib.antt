@@ -10,7 +10,7 @@ mod Following
 mod Fronts
 mod Placing
 pub mod Heights
-pub mod Operators
+pub mod Operations
 pub mod Few
 pub mod Alike
 pub mod Sound

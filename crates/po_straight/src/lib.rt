@@ -16,6 +16,7 @@ mod lexing;
 mod names;
 mod read_expression;
 mod reading;
+mod scope;
 mod word;
 
 pub use definition::Definition;

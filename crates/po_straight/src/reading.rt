@@ -1,8 +1,9 @@
-ghost use Rattle.std.specs.Prelude.{ℕ, ◌≡◌, ◌≤◌, ◌<◌, ◌^◌, [], length, drop, IfOk, IfSome, IfNone};
+ghost use Rattle.std.specs.Prelude.{ℕ, ◌≡◌, ◌≤◌, ◌<◌, ◌^◌, [], length, drop, map, Contains, IfOk, IfSome, IfNone};
 ghost use Rattle.std.specs.Prelude.{List as Sequence};
 ghost use Rattle.po_straight.specs.declared.lexeme.Lexeme.{Lexeme as Placed};
 ghost use Rattle.po_straight.specs.declared.definition.Definition.{Definition as Tree};
-ghost use Rattle.po_straight.specs.Definitions.{IsFile, graph_size, AreServed};
+ghost use Rattle.po_straight.specs.Distinct.{AllDiffer};
+ghost use Rattle.po_straight.specs.Definitions.{IsFile, graph_size, known_with, AreServed};
 ghost use Rattle.po_straight.specs.Outline.{Starts};
 
 use crate::body::{Body, body_at, graph_size_of};
@@ -10,7 +11,7 @@ use crate::definition::Definition;
 use crate::heading::{Heading, heading_at};
 use crate::lexeme::Lexeme;
 use crate::lexing::lexemes;
-use crate::names::Names;
+use crate::scope::{Functions, Scope};
 use po_base::{List, Memory};
 use std::alloc::Global;
 
@@ -20,17 +21,23 @@ const MOST_FUNCTIONS: usize = 65535;
 /// The most nodes times registers of all functions of a file that is served.
 const MOST_FILE_SIZE: u64 = 1 << 24;
 
-/// The definition that stands at a place, and the place behind it. Time linear in its signs but for the
-/// logarithm of the number of its parameters.
+/// The definition that stands at a place behind those of these functions, and the place behind it; its function is
+/// then among them. None where there is none, and where its name is that of one of the functions. Time linear in its
+/// signs but for the logarithm of the number of its parameters and of the functions.
 fn definition_at(
     alloc: Global,
     lexemes: &[Lexeme],
     at: usize,
+    functions: &mut Functions,
 ) -> Result<Option<(Definition, usize)>, Memory>
-    requires { length lexemes.now ≤ 2 ^ 24 }
-    ensures found { IfOk result (λ found. IfSome found (λ p. Starts p.0 (drop at lexemes.now) (drop p.1 lexemes.now))) }
+    requires short { length lexemes.now ≤ 2 ^ 24 }
+    requires few { length functions.old < 2 ^ 31 }
+    requires differ { AllDiffer (map (λ f. f.name) functions.old) }
+    ensures found { IfOk result (λ found. IfSome found (λ p. Starts functions.old p.0 (drop at lexemes.now) (drop p.1 lexemes.now))) }
+    ensures known { IfOk result (λ found. IfSome found (λ p. functions.new ≡ known_with functions.old p.0)) }
+    ensures fresh { IfOk result (λ found. IfSome found (λ p. Contains (map (λ f. f.name) functions.old) p.0.name → ⊥)) }
     ensures within { IfOk result (λ found. IfSome found (λ p. (at < p.1) × (p.1 ≤ length lexemes.now))) }
-    ensures none { IfOk result (λ found. IfNone found ((d : Tree) (left : Sequence Placed) → Starts d (drop at lexemes.now) left → ⊥)) }
+    ensures none { IfOk result (λ found. IfNone found ((d : Tree) (left : Sequence Placed) → Starts functions.old d (drop at lexemes.now) left → Contains (map (λ f. f.name) functions.old) d.name)) }
 {
     let Some(heading) = heading_at(alloc, lexemes, at)? else {
         return Ok(None);
@@ -40,7 +47,11 @@ fn definition_at(
         parameters,
         end,
     } = heading;
-    let Some(body) = body_at(alloc, lexemes, end, &parameters)? else {
+    if !functions.insert(name.share()?, parameters.len() as u32)? {
+        return Ok(None);
+    }
+    let scope = Scope::new(&parameters, functions);
+    let Some(body) = body_at(alloc, lexemes, end, &scope)? else {
         return Ok(None);
     };
     let Body { line, value, end } = body;
@@ -69,11 +80,11 @@ fn definitions(alloc: Global, lexemes: &[Lexeme]) -> Result<Option<List<Definiti
     ensures none { IfOk result (λ found. IfNone found ((ds : Sequence Tree) → AreServed ds lexemes.now → ⊥)) }
 {
     let mut definitions = List::new(alloc);
-    let mut names = Names::new(alloc);
+    let mut functions = Functions::new(alloc);
     let mut size = 0u64;
     let mut at = 0usize;
     while at < lexemes.len() {
-        let Some((definition, end)) = definition_at(alloc, lexemes, at)? else {
+        let Some((definition, end)) = definition_at(alloc, lexemes, at, &mut functions)? else {
             return Ok(None);
         };
         if definitions.len() == MOST_FUNCTIONS {
@@ -81,9 +92,6 @@ fn definitions(alloc: Global, lexemes: &[Lexeme]) -> Result<Option<List<Definiti
         }
         size += size_of(&definition);
         if size > MOST_FILE_SIZE {
-            return Ok(None);
-        }
-        if !names.insert(definition.name.share()?)? {
             return Ok(None);
         }
         definitions.push(definition)?;
