@@ -12,7 +12,7 @@ mod Placing
 pub mod Heights
 pub mod Operations
 pub mod Few
-pub mod Alike
+pub mod Readings
 pub mod Sound
 pub mod Complete
 pub mod Single

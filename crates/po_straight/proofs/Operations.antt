@@ -1,5 +1,5 @@
--- How many operations each kind of expression has.
-use Rattle.std.proofs.Common.{◌≡◌, ℕ, ◌+◌, ap, sym, ◌∙◌}
+-- How many operators and calls each kind of expression has.
+use Rattle.std.proofs.Common.{◌≡◌, ℕ, ◌+◌, List, map, sum, ap, sym, ◌∙◌}
 use Rattle.po_base.specs.declared.operations.Op.{Op}
 use Rattle.po_straight.specs.declared.expression.Expression.{Expression, fold-roll-Expression}
 use Rattle.po_straight.specs.declared.expression.Expression.TheVariants as e
@@ -17,6 +17,10 @@ operations-Constant value = ap operations (sym (e.rolls-Constant value)) ∙ fol
 pub operations-Paren : (x : Expression) → operations (e.Paren x) ≡ operations x
 unfolding operations
 operations-Paren x = ap operations (sym (e.rolls-Paren x)) ∙ fold-roll-Expression _ operations_of (Expression-F.Paren x)
+
+pub operations-Call : (f line : ℕ) (xs : List Expression) → operations (e.Call f line xs) ≡ sum (map operations xs) + 1
+unfolding operations
+operations-Call f line xs = ap operations (sym (e.rolls-Call f line xs)) ∙ fold-roll-Expression _ operations_of (Expression-F.Call f line xs)
 
 pub operations-Binary : (o : Op) (line : ℕ) (x y : Expression) → operations (e.Binary o line x y) ≡ operations x + operations y + 1
 unfolding operations
