@@ -9,6 +9,7 @@ mod Nowhere
 mod Following
 mod Fronts
 mod Placing
+mod Signing
 pub mod Heights
 pub mod Operations
 pub mod Few
@@ -17,6 +18,7 @@ pub mod Sound
 pub mod Complete
 pub mod Single
 pub mod Rules
+pub mod Calls
 mod Listings
 mod Headers
 mod Bodies

@@ -50,7 +50,9 @@ impl Functions {
     fn find(&self, name: &Text) -> Option<Called>
         ensures { MatchOption result (Contains (map (λ f. f.name) self.now) name.now → ⊥) (λ called. slice_get self.now called.place ≡ Some (record { name = name.now; count = called.count })) }
     {
-        let place = self.names.place(name)?;
+        let Some(place) = self.names.place(name) else {
+            return None;
+        };
         Some(Called {
             place,
             count: self.counts.as_slice()[place as usize],
