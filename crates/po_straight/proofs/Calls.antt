@@ -1,15 +1,16 @@
 -- What stands at the name of a function, and the arguments of a call.
 use Rattle.std.proofs.Common.{◌≡◌, ℕ, ◌+◌, ◌-◌, ◌≤◌, ◌<◌, List, [], ◌∷◌, ◌++◌, ap, sym, ◌∙◌, refl, subst, arith, length, map, drop, append_assoc}
-use Rattle.std.specs.Prelude.{Some, slice_get, Contains, ◌≢◌, max}
+use Rattle.std.specs.Prelude.{Option, Some, None, slice_get, Contains, ◌≢◌, max}
 use Rattle.po_straight.specs.declared.lexeme.Sign.TheVariants as s
 use Rattle.po_straight.specs.declared.lexeme.Lexeme.{Lexeme}
 use Rattle.po_straight.specs.declared.expression.Expression.{Expression}
 use Rattle.po_straight.specs.declared.expression.Expression.TheVariants as e
+use Rattle.po_straight.specs.declared.read_expression.Arguments.{Arguments as Found}
 use Rattle.po_straight.specs.Scopes.{Scope, Signature, NamesDiffer}
 use Rattle.po_straight.specs.Expressions.{height, greatest}
 use Rattle.po_straight.specs.Reading.{Reads, Operand, parameter, constant, paren, call, Arguments, without, with, Items, final, further}
 use Rattle.po_straight.specs.Outline.{Begins}
-use Rattle.po_straight.specs.Places.{height_of_call}
+use Rattle.po_straight.specs.Places.{height_of_call, AreFound}
 use Rattle.po_straight.proofs.Heights.{height-Call}
 use Rattle.po_straight.proofs.Readings.{there, name_at, one_function, reads_same, arguments_same, no_items}
 
@@ -98,6 +99,11 @@ pub not_without : {scope : Scope} {ts us : List Lexeme} {xs : List Expression} �
 not_without none (without last ts q) = absurd (none q)
 not_without none (with xs ts us w) = w
 
+pub are_arguments : (scope : Scope) (depth at : ℕ) (ts : List Lexeme) → (Begins s.Close (drop at ts) → ⊥) → (found : Option Found) →
+    AreFound (Items scope) depth at ts found → AreFound (Arguments scope) depth at ts found
+are_arguments scope depth at ts none None h = λ xs us w g. h xs us (not_without none w) g
+are_arguments scope depth at ts none (Some found) h = (with found.values (drop at ts) (drop found.end ts) h.0, h.1, h.2, h.3, h.4)
+
 -- in reading arguments from start, xs were read so far, each with a comma behind it, and ts are left
 pub record ItemsLead (scope : Scope) (start : List Lexeme) (xs : List Expression) (ts : List Lexeme) : Type 0 where
   pub forth : (ys : List Expression) (us : List Lexeme) → Items scope ts ys us → Items scope start (xs ++ ys) us
@@ -125,9 +131,9 @@ others_of mark differ h r (final y last ts us q v) =
     let p = reads_same differ r v in
     let marks : mark ≡ last = let e = p.1 in cc in
     absurd cc
-others_of {scope = scope} {vs = vs} mark differ h r (further y ys own ts us vs q v w) =
+others_of {scope = scope} {us = us} mark differ h r (further y ys own ts left vs q v w) =
     let p = reads_same differ r v in
-    let rests = let e = p.1 in cc in
+    let rests : us ≡ left = let e = p.1 in cc in
     (ys, ap (λ a. a ∷ ys) (sym p.0), subst (λ a. Items scope a ys vs) (sym rests) w)
 
 module _ {scope : Scope} {start ts : List Lexeme} {xs : List Expression} (lead : ItemsLead scope start xs ts) where

@@ -1,6 +1,6 @@
 -- How many operators and calls each kind of expression has.
 use Rattle.std.proofs.Common.{◌≡◌, ℕ, ◌+◌, List, map, sum, ap, sym, ◌∙◌}
-use Rattle.po_base.specs.declared.operations.Op.{Op}
+use Rattle.po_base.specs.declared.operators.Op.{Op}
 use Rattle.po_straight.specs.declared.expression.Expression.{Expression, fold-roll-Expression}
 use Rattle.po_straight.specs.declared.expression.Expression.TheVariants as e
 use Rattle.po_straight.specs.declared.expression.Expression.TheOpen.{Expression-F}

@@ -78,7 +78,7 @@ module _ {scope : Scope} (differ : NamesDiffer scope) where
   one_parameter : (n m : ℕ) (name other : List ℕ) → slice_get scope.parameters n ≡ Some name → slice_get scope.parameters m ≡ Some other → name ≡ other → n ≡ m
   one_parameter n m name other q r same = one_place scope.parameters n m name differ.parameters q (rw (← same) at r)
 
-  one_function : (n m : ℕ) (called other : Signature) → slice_get scope.functions n ≡ Some called → slice_get scope.functions m ≡ Some other → called.name ≡ other.name → n ≡ m
+  pub one_function : (n m : ℕ) (called other : Signature) → slice_get scope.functions n ≡ Some called → slice_get scope.functions m ≡ Some other → called.name ≡ other.name → n ≡ m
   one_function n m called other q r same =
       one_place (map (λ f. f.name) scope.functions) n m called.name differ.functions (name_at scope.functions n called q) (rw (← same) at (name_at scope.functions m other r))
 

@@ -42,5 +42,7 @@ invariant-items_at-loop-values l = record {
   high : l.height ≡ height_of_call l.values;
   shallow : l.height ≤ l.depth;
   after : l.at ≤ l.next;
-  within : l.next ≤ length l.lexemes;
 }
+
+abbrev pub decreases-items_at-loop-values : goal.decreases-items_at-loop-values
+decreases-items_at-loop-values l = length l.lexemes - l.next
