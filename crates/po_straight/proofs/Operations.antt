@@ -1,5 +1,7 @@
 -- How many operators and calls each kind of expression has.
-use Rattle.std.proofs.Common.{◌≡◌, ℕ, ◌+◌, List, map, sum, ap, sym, ◌∙◌}
+use Rattle.std.proofs.Common.{◌≡◌, ℕ, ◌+◌, List, [], ◌∷◌, map, sum, ap, sym, ◌∙◌, refl, arith}
+use Rattle.std.specs.Prelude.{sum_by}
+use Rattle.std.proofs.lemmas.List.Sums.{sum_by-cons}
 use Rattle.po_base.specs.declared.operators.Op.{Op}
 use Rattle.po_straight.specs.declared.expression.Expression.{Expression, fold-roll-Expression}
 use Rattle.po_straight.specs.declared.expression.Expression.TheVariants as e
@@ -25,3 +27,10 @@ operations-Call f line xs = ap operations (sym (e.rolls-Call f line xs)) ∙ fol
 pub operations-Binary : (o : Op) (line : ℕ) (x y : Expression) → operations (e.Binary o line x y) ≡ operations x + operations y + 1
 unfolding operations
 operations-Binary o line x y = ap operations (sym (e.rolls-Binary o line x y)) ∙ fold-roll-Expression _ operations_of (Expression-F.Binary o line x y)
+
+-- the operators and calls of some expressions
+pub sum_mapped : (xs : List Expression) → sum (map operations xs) ≡ sum_by operations xs
+sum_mapped [] = refl
+sum_mapped (x ∷ xs) =
+    let h = sum_mapped xs in
+    omega (arith, sum_by-cons (λ n. n) (operations x) (map operations xs), sum_by-cons operations x xs)

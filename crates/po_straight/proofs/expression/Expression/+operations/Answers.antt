@@ -1,11 +1,13 @@
-use Rattle.std.proofs.Common.{◌≡◌, ℕ, ◌<◌, ◌+◌, arith, refl, ap, sym, ◌∙◌}
+use Rattle.std.proofs.Common.{◌≡◌, ℕ, ◌<◌, ◌≤◌, ◌+◌, List, length, get_or, take, arith, refl, ap, sym, ◌∙◌, take_all}
+use Rattle.std.specs.Prelude.{sum_by}
+use Rattle.std.proofs.lemmas.List.Sums.{sum_by_more_le}
 use Rattle.po_base.specs.declared.operators.Op.{Op}
 use Rattle.po_straight.specs.declared.expression.Expression.{Expression}
 use Rattle.po_straight.specs.declared.expression.Expression.TheVariants as e
 use Rattle.po_straight.specs.Expressions.{height}
 use Rattle.po_straight.specs.Definitions.{operations}
-use Rattle.po_straight.proofs.Heights.{height-Paren, height-Binary}
-use Rattle.po_straight.proofs.Operations.{operations-Parameter, operations-Constant, operations-Paren, operations-Binary}
+use Rattle.po_straight.proofs.Heights.{height-Paren, height-Call, height-Binary, height_at}
+use Rattle.po_straight.proofs.Operations.{operations-Parameter, operations-Constant, operations-Paren, operations-Call, operations-Binary, sum_mapped}
 use Rattle.po_straight.proofs.expression.Expression.+operations.Goals as goal
 
 -- parentheses are higher than what they enclose, and have its operations
@@ -20,6 +22,20 @@ parts x left right a b o line q r s =
     let h = height-Binary o line left right in
     let g = operations-Binary o line left right in
     (omega (arith, ap height q, ap height r, h), omega (arith, ap height q, ap height s, h), omega (arith, ap operations q, ap operations r, ap operations s, g))
+
+-- a call is higher than its arguments, and has their operations and its own
+module _ (x : Expression) (f line : ℕ) (items xs : List Expression) (i : ℕ) (q : x ≡ e.Call f line xs) (r : items ≡ xs) where
+  argument : (d : Expression) → i < length items → (height (get_or items i d) < height x) × (1 + sum_by operations (take i items) + operations (get_or items i d) ≤ operations x)
+  argument d h =
+      let k = ap (λ v. sum_by operations v) r in (
+        omega (arith, ap height q, height-Call f line xs, height_at items i d h, ap (λ v. height (e.Call f line v)) r, height-Call f line items),
+        omega (arith, ap operations q, operations-Call f line xs, sum_mapped xs, k, sum_by_more_le operations items i d h),
+      )
+
+  arguments : length items ≤ i → 1 + sum_by operations (take i items) ≡ operations x
+  arguments h =
+      let k = ap (λ v. sum_by operations v) r in
+      omega (arith, ap operations q, operations-Call f line xs, sum_mapped xs, k, ap (λ v. sum_by operations v) (take_all i items h))
 
 pub operations-requires : goal.operations-requires
 operations-requires t c =
@@ -59,3 +75,17 @@ pub returns-in-Binary : goal.returns-in-Binary
 returns-in-Binary t c =
     let p = parts c.args.self.now _ _ _ _ _ _ c.in-Binary.is c.get-in-Binary.ensures c.get-in-Binary-2.ensures in
     omega (arith, p.2, c.operations-in-Binary.ensures, c.operations-in-Binary-2.ensures)
+
+pub operations-count-requires : goal.operations-count-requires
+operations-count-requires t c =
+    let p = argument c.args.self.now _ _ _ _ c.loop-argument.argument-index c.in-Call.is c.as_slice-argument-items.ensures c.argument-item.result c.loop-argument-test.true in
+    (omega (arith, p.0, c.decreases, ap height c.argument-item.is), omega (arith, p.1, c.requires, ap operations c.argument-item.is))
+
+pub overflow_add-count : goal.overflow_add-count
+overflow_add-count t c =
+    let p = argument c.args.self.now _ _ _ _ c.loop-argument.argument-index c.in-Call.is c.as_slice-argument-items.ensures c.argument-item.result c.loop-argument-test.true in
+    omega (arith, p.1, c.requires, ap operations c.argument-item.is, c.operations-count.ensures, c.loop-argument.invariant)
+
+pub returns-after-loop-argument : goal.returns-after-loop-argument
+returns-after-loop-argument t c =
+    c.loop-argument.invariant ∙ arguments c.args.self.now _ _ _ _ c.loop-argument.argument-index c.in-Call.is c.as_slice-argument-items.ensures c.loop-argument-test.false
