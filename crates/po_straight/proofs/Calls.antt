@@ -1,5 +1,5 @@
 -- What stands at the name of a function, and the arguments of a call.
-use Rattle.std.proofs.Common.{◌≡◌, ℕ, ◌+◌, ◌-◌, ◌≤◌, ◌<◌, List, [], ◌∷◌, ◌++◌, ap, sym, ◌∙◌, refl, subst, arith, length, map, drop, append_assoc}
+use Rattle.std.proofs.Common.{◌≡◌, ℕ, ◌-◌, ◌≤◌, List, [], ◌∷◌, ◌++◌, ap, sym, ◌∙◌, refl, subst, arith, length, map, drop, append_assoc}
 use Rattle.std.specs.Prelude.{Option, Some, None, slice_get, Contains, ◌≢◌, max}
 use Rattle.po_straight.specs.declared.lexeme.Sign.TheVariants as s
 use Rattle.po_straight.specs.declared.lexeme.Lexeme.{Lexeme}
@@ -7,12 +7,12 @@ use Rattle.po_straight.specs.declared.expression.Expression.{Expression}
 use Rattle.po_straight.specs.declared.expression.Expression.TheVariants as e
 use Rattle.po_straight.specs.declared.read_expression.Arguments.{Arguments as Found}
 use Rattle.po_straight.specs.Scopes.{Scope, Signature, NamesDiffer}
-use Rattle.po_straight.specs.Expressions.{height, greatest}
+use Rattle.po_straight.specs.Expressions.{height}
 use Rattle.po_straight.specs.Reading.{Reads, Operand, parameter, constant, paren, call, Arguments, without, with, Items, final, further}
 use Rattle.po_straight.specs.Outline.{Begins}
 use Rattle.po_straight.specs.Places.{height_of_call, AreFound}
 use Rattle.po_straight.proofs.Heights.{height-Call}
-use Rattle.po_straight.proofs.Readings.{there, name_at, one_function, reads_same, arguments_same, no_items}
+use Rattle.po_straight.proofs.Readings.{there, name_at, one_function, reads_same, arguments_same}
 
 -- the call that stands where a function's name was, behind it
 record Calls (scope : Scope) (name : List ℕ) (behind : List Lexeme) (x : Expression) (us : List Lexeme) : Type 0 where

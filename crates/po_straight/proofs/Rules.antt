@@ -1,6 +1,6 @@
 -- What the reader's tests tell of the expressions that can stand at a place.
 use Rattle.std.proofs.Common.{◌≡◌, ℕ, zero, suc, add-one, ◌+◌, ◌-◌, ◌≤◌, ◌<◌, List, [], ◌∷◌, ◌++◌, ap, sym, ◌∙◌, refl, subst, arith, length, drop, length-drop, append-nil, get_or, ◌⊎◌, inl, inr}
-use Rattle.std.specs.Prelude.{Some, slice_get, Contains, ◌≢◌}
+use Rattle.std.specs.Prelude.{◌≢◌}
 use Rattle.std.proofs.Math.Seq.{drop-length, drop-cons}
 use Rattle.po_base.specs.declared.operators.Op.{Op}
 use Rattle.po_straight.specs.declared.lexeme.Sign.{Sign}
@@ -9,9 +9,9 @@ use Rattle.po_straight.specs.declared.lexeme.Lexeme.{Lexeme}
 use Rattle.po_straight.specs.declared.expression.Expression.{Expression}
 use Rattle.po_straight.specs.declared.expression.Expression.TheVariants as e
 use Rattle.po_straight.specs.declared.read_expression.Operator.{Operator}
-use Rattle.po_straight.specs.Scopes.{Scope, Signature, NamesDiffer}
+use Rattle.po_straight.specs.Scopes.{Scope, NamesDiffer}
 use Rattle.po_straight.specs.Expressions.{IsOperator, height, Prints, IsExpression}
-use Rattle.po_straight.specs.Reading.{GoesOn, Reads, begun, Operand, parameter, constant, paren, call, Climbs, stop, more, Arguments}
+use Rattle.po_straight.specs.Reading.{GoesOn, Reads, begun, Operand, parameter, constant, paren, call, Climbs, stop, more}
 use Rattle.po_straight.specs.Outline.{Begins}
 use Rattle.po_straight.specs.Places.{GoesOnBy, Closed, close}
 use Rattle.po_straight.proofs.Heights.{height-Parameter, height-Constant, height-Paren, height-Call, height-Binary}

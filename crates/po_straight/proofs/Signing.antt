@@ -1,7 +1,6 @@
 -- Functions as their names and their numbers of parameters.
-use Rattle.std.proofs.Common.{◌≡◌, ℕ, zero, suc, List, [], ◌∷◌, ◌++◌, length, map, ap, sym, ◌∙◌, refl, arith}
+use Rattle.std.proofs.Common.{◌≡◌, ℕ, zero, suc, List, [], ◌∷◌, ◌++◌, length, map, ap, refl, arith}
 use Rattle.std.specs.Prelude.{Some, slice_get, slice_index_or}
-use Rattle.po_straight.specs.Scopes.{Signature}
 use Rattle.po_straight.specs.Named.{signatures}
 
 pub names_signed : (names : List (List ℕ)) (counts : List ℕ) → length names ≡ length counts → map (λ f. f.name) (signatures names counts) ≡ names

@@ -8,7 +8,7 @@ use Rattle.po_straight.specs.declared.expression.Expression.{Expression}
 use Rattle.po_straight.specs.declared.definition.Definition.{Definition}
 use Rattle.po_straight.specs.Scopes.{Scope, Signature}
 use Rattle.po_straight.specs.Expressions.{IsExpression}
-use Rattle.po_straight.specs.Definitions.{signs, nodes_times_registers, known_with, IsDefinition, AreDefinitions}
+use Rattle.po_straight.specs.Definitions.{signs, nodes_times_registers, IsDefinition, AreDefinitions}
 
 -- the first sign is x
 abbrev pub Begins : Sign → List Lexeme → Type 0

@@ -42,26 +42,20 @@ fn definition_at(
     let Some(heading) = heading_at(alloc, lexemes, at)? else {
         return Ok(None);
     };
-    let Heading {
-        name,
-        parameters,
-        end,
-    } = heading;
-    if !functions.insert(name.share()?, parameters.len() as u32)? {
+    if !functions.insert(heading.name.share()?, heading.parameters.len() as u32)? {
         return Ok(None);
     }
-    let scope = Scope::new(&parameters, functions);
-    let Some(body) = body_at(alloc, lexemes, end, &scope)? else {
+    let scope = Scope::new(&heading.parameters, functions);
+    let Some(body) = body_at(alloc, lexemes, heading.end, &scope)? else {
         return Ok(None);
     };
-    let Body { line, value, end } = body;
     let definition = Definition {
-        name,
-        parameters: parameters.into_names(),
-        line,
-        value,
+        name: heading.name,
+        parameters: heading.parameters.into_names(),
+        line: body.line,
+        value: body.value,
     };
-    Ok(Some((definition, end)))
+    Ok(Some((definition, body.end)))
 }
 
 /// How many nodes times registers the graph of a definition has.
