@@ -197,11 +197,14 @@ stands_at sign n ts h = go (drop n ts) refl h
   where
     go : (us : List Lexeme) → drop n ts ≡ us → Begins sign us → (at : StandsAt n ts) × (at.mark.sign ≡ sign)
     go [] q h = absurd h
-    go (mark ∷ us) q h = (record {
+    go (mark ∷ us) q h = (
+      record {
         mark = mark;
         here = q ∙ ap (λ v. mark ∷ v) (behind n ts us mark q);
         within = omega (arith, length-drop n ts, ap length q);
-      }, h)
+      },
+      h,
+    )
 
 -- and with a closing parenthesis it is
 pub is_closed : {scope : Scope} {x : Expression} (n m : ℕ) (ts : List Lexeme) →

@@ -59,7 +59,6 @@ mutual
             (subst (λ v. Prints scope 2 (e.Paren x) (record { sign = s.Open; line = first.line } ∷ (p.signs ++ record { sign = v; line = last.line } ∷ []))) (sym r) printed),
         rw append_assoc (ap (λ v. first ∷ v) p.split),
       )
-
   operand_sound {scope = scope} (call f called arguments mark first ts us q o g free k w) =
       let p = arguments_sound w in
       let close : Lexeme = record { sign = s.Close; line = p.last.line } in

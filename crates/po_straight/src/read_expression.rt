@@ -390,12 +390,17 @@ mod tests {
         }
     }
 
-    /// What is read of the signs over the parameters `a` and `b`: the top and the number of operations.
+    /// What is read of the signs over the parameters `a` and `b` and functions without parameters (`f`), with one
+    /// (`g` and `a`) and with two (`h`): the top and the number of operators and calls.
     fn reading(alloc: Global, bytes: &[u8]) -> Result<Option<(u32, u32)>, Memory> {
         let mut parameters = Parameters::new(alloc);
-        let _ = parameters.insert(Text::new(alloc, b"a")?)?;
-        let _ = parameters.insert(Text::new(alloc, b"b")?)?;
-        let functions = Functions::new(alloc);
+        for name in [b"a", b"b"] {
+            let _ = parameters.insert(Text::new(alloc, name)?)?;
+        }
+        let mut functions = Functions::new(alloc);
+        for (name, count) in [(b"f", 0u32), (b"g", 1), (b"h", 2), (b"a", 1)] {
+            let _ = functions.insert(Text::new(alloc, name)?, count)?;
+        }
         let scope = Scope::new(&parameters, &functions);
         let lexemes = signs(alloc, bytes)?;
         if lexemes.len() > 1 << 24 {
@@ -456,16 +461,62 @@ mod tests {
     }
 
     #[test]
-    fn keeps_the_limit(rt: HostRuntime) {
-        let rows: [(usize, &[u8], &[u8], Option<(u32, u32)>); 5] = [
-            (255, b"(", b")", Some((0, 0))),
-            (256, b"(", b")", None),
-            (255, b"a+", b"", Some((510, 255))),
-            (256, b"a+", b"", None),
-            (1 << 20, b"(", b"", None),
+    fn reads_calls(rt: HostRuntime) {
+        let rows: [(&[u8], Option<(u32, u32)>); 30] = [
+            (b"f()", Some((2, 1))),
+            (b"g(a)", Some((2, 1))),
+            (b"h(a,b)", Some((2, 1))),
+            (b"h(1,g(b))", Some((2, 2))),
+            (b"h(f(),f())", Some((2, 3))),
+            (b"g(a+b)*2", Some((7, 3))),
+            (b"(g(a))", Some((0, 1))),
+            (b"2-g(a)", Some((2, 2))),
+            (b"f", None),
+            (b"g", None),
+            (b"g()", None),
+            (b"f(a)", None),
+            (b"g(a,b)", None),
+            (b"h(a)", None),
+            (b"h(a,b,1)", None),
+            (b"h(,)", None),
+            (b"h(a,)", None),
+            (b"h(,b)", None),
+            (b"g(a,)", None),
+            (b"f(,)", None),
+            (b"h(a b)", None),
+            (b"g(a", None),
+            (b"f(", None),
+            (b"g(f)", None),
+            (b"(g)(a)", None),
+            (b"g(a)(b)", None),
+            (b"7(a)", None),
+            (b"c(a)", None),
+            (b"a(b)", None),
+            (b"a(1)+b", None),
         ];
-        for (times, before, behind, want) in rows {
-            let bytes = nested(rt.alloc(), times, before, b"a", behind).expect(&rt, "memory");
+        for (bytes, want) in rows {
+            assert_eq!(rt; reading(rt.alloc(), bytes).expect(&rt, "memory"), want);
+        }
+    }
+
+    #[test]
+    fn keeps_the_limit(rt: HostRuntime) {
+        let rows: [(usize, &[u8], &[u8], &[u8], Option<(u32, u32)>); 12] = [
+            (255, b"(", b"a", b")", Some((0, 0))),
+            (256, b"(", b"a", b")", None),
+            (255, b"a+", b"a", b"", Some((510, 255))),
+            (256, b"a+", b"a", b"", None),
+            (255, b"g(", b"a", b")", Some((2, 255))),
+            (256, b"g(", b"a", b")", None),
+            (254, b"g(", b"f()", b")", Some((2, 255))),
+            (255, b"g(", b"f()", b")", None),
+            (255, b"h(1,", b"a", b")", Some((2, 255))),
+            (256, b"h(1,", b"a", b")", None),
+            (1 << 20, b"(", b"a", b"", None),
+            (1 << 20, b"g(", b"a", b"", None),
+        ];
+        for (times, before, within, behind, want) in rows {
+            let bytes = nested(rt.alloc(), times, before, within, behind).expect(&rt, "memory");
             assert_eq!(rt; reading(rt.alloc(), &bytes).expect(&rt, "memory"), want);
         }
     }

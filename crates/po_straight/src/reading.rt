@@ -200,4 +200,51 @@ mod tests {
             assert!(rt; matches!(found, Ok(found) if found == expected));
         }
     }
+
+    #[test]
+    fn reads_files_with_calls(rt: HostRuntime) {
+        let rows: [(&[u8], Option<(usize, u32)>); 22] = [
+            (
+                b"int d(int a,int b){return a/b;}\nint m(void){return d(6,3);}",
+                Some((2, 2)),
+            ),
+            (b"int f(int a,int b){return f(b,a)/b;}", Some((1, 1))),
+            (b"int f(void){return f();}", Some((1, 1))),
+            (b"int f(int a){return f\n(\ta ) ;}", Some((1, 1))),
+            (
+                b"int f(void){return 1;}int g(int a){return f()+a;}int h(int a){return g(f())-h(g(a));}",
+                Some((3, 1)),
+            ),
+            (b"int f(int a){return g(a);}", None),
+            (b"int f(int a){return g(a);}int g(int a){return a;}", None),
+            (
+                b"int f(int a){return g(a);}int g(int a){return f(a);}",
+                None,
+            ),
+            (
+                b"int g(int a){return a;}int f(int g){return g;}",
+                Some((2, 1)),
+            ),
+            (b"int g(int a){return a;}int f(int g){return g(g);}", None),
+            (b"int g(int a){return a;}int f(int g){return g(1);}", None),
+            (b"int f(int f){return f(f);}", None),
+            (
+                b"int f(int f){return f;}int g(int a){return f(a);}",
+                Some((2, 1)),
+            ),
+            (b"int f(void){return f(void);}", None),
+            (b"int f(void){return f(,);}", None),
+            (b"int f(int a){return f();}", None),
+            (b"int f(int a){return f(a,);}", None),
+            (b"int f(int a){return f(a,a);}", None),
+            (b"int f(int a){return f(int a);}", None),
+            (b"int f(void){return f;}", None),
+            (b"int f(void){return 1;}int f(void){return f();}", None),
+            (b"int f(void){return return();}", None),
+        ];
+        for (bytes, expected) in rows {
+            let found = reading(rt.alloc(), bytes);
+            assert!(rt; matches!(found, Ok(found) if found == expected));
+        }
+    }
 }

@@ -126,7 +126,7 @@ call_at-returns-then-len-function t c =
     let open_ = stands_at s.Open (c.args.at + 1) c.args.lexemes.now (c.if-not-stands.ensures.0 refl) in
     let f = rw c.in-Some-2.is at c.in_ok-arguments.ensures in
     λ x us w h. none_fitting at.0.mark _ _ at.1 c.requires.called at.0.here w c.requires.differ c.in-Some.function.place _ open_.0.mark c.in-Some-2.arguments.values _ _ open_.0.here c.in-Some.ensures refl f.0
-        (rw c.len.ensures at c.if-len-function.true)
+    (rw c.len.ensures at c.if-len-function.true)
 
 pub call_at-returns : goal.call_at-returns
 call_at-returns t c =
