@@ -1,5 +1,5 @@
 -- What stands at the name of a function, and the arguments of a call.
-use Rattle.std.proofs.Common.{◌≡◌, ℕ, ◌-◌, ◌≤◌, List, [], ◌∷◌, ◌++◌, ap, sym, ◌∙◌, refl, subst, arith, length, map, drop, append_assoc}
+use Rattle.std.proofs.Common.{◌≡◌, ℕ, ◌+◌, ◌-◌, ◌≤◌, List, [], ◌∷◌, ◌++◌, ap, sym, ◌∙◌, refl, subst, arith, length, map, drop, get_or, append_assoc}
 use Rattle.std.specs.Prelude.{Option, Some, None, slice_get, Contains, ◌≢◌, max}
 use Rattle.po_straight.specs.declared.lexeme.Sign.TheVariants as s
 use Rattle.po_straight.specs.declared.lexeme.Lexeme.{Lexeme}
@@ -12,6 +12,7 @@ use Rattle.po_straight.specs.Reading.{Reads, Operand, parameter, constant, paren
 use Rattle.po_straight.specs.Outline.{Begins}
 use Rattle.po_straight.specs.Places.{height_of_call, AreFound}
 use Rattle.po_straight.proofs.Heights.{height-Call}
+use Rattle.po_straight.proofs.Rules.{at_place, stands_at}
 use Rattle.po_straight.proofs.Readings.{there, name_at, one_function, reads_same, arguments_same}
 
 -- the call that stands where a function's name was, behind it
@@ -78,12 +79,14 @@ module _ {scope : Scope} {ts us : List Lexeme} {x : Expression} (mark : Lexeme) 
       let values : c.values ≡ xs = (arguments_same differ (rw rests at c.arguments) w).0 in
       other (ap length (sym values) ∙ c.fits ∙ ap (λ v. v.count) same)
 
--- a name, a parenthesis and arguments are a call
-pub is_call : {scope : Scope} {ts us : List Lexeme} (f count : ℕ) (name : List ℕ) (mark first : Lexeme) (xs : List Expression) (rest : List Lexeme) →
-    mark.sign ≡ s.Name name → (Contains scope.parameters name → ⊥) → ts ≡ mark ∷ (first ∷ rest) → first.sign ≡ s.Open →
-    slice_get scope.functions f ≡ Some (record { name = name; count = count }) → Arguments scope rest xs us → length xs ≡ count → Operand scope ts (e.Call f first.line xs) us
-is_call f count name mark first xs rest named free here opens known w fits =
-    rw here (call f (record { name = name; count = count }) xs mark first rest _ named opens known free fits w)
+-- a function's name, a parenthesis and arguments are a call
+pub is_call : {scope : Scope} {us : List Lexeme} {x : Expression} (n : ℕ) (ts : List Lexeme) (d : Lexeme) (f count : ℕ) (name : List ℕ) (xs : List Expression) →
+    Begins (s.Name name) (drop n ts) → (Contains scope.parameters name → ⊥) → Begins s.Open (drop (n + 1) ts) → slice_get scope.functions f ≡ Some (record { name = name; count = count }) →
+    Arguments scope (drop (n + 1 + 1) ts) xs us → length xs ≡ count → x ≡ e.Call f (get_or ts (n + 1) d).line xs → Operand scope (drop n ts) x us
+is_call {us = us} n ts d f count name xs named free opens known w fits q =
+    let at = stands_at (s.Name name) n ts named in
+    let here = at_place (n + 1) ts d (stands_at s.Open (n + 1) ts opens).0.within in
+    rw (q, at.0.here, here) (call f (record { name = name; count = count }) xs at.0.mark (get_or ts (n + 1) d) (drop (n + 1 + 1) ts) us at.1 (rw here at opens) known free fits w)
 
 -- the greatest height of a called name and its arguments, with one more argument
 pub height_push : (xs : List Expression) (x : Expression) → height_of_call (xs ++ x ∷ []) ≡ max (height_of_call xs) (height x)

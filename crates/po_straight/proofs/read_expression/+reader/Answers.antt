@@ -130,15 +130,12 @@ call_at-returns-then-len-function t c =
 
 pub call_at-returns : goal.call_at-returns
 call_at-returns t c =
-    let at = stands_at (s.Name c.args.name.now) c.args.at c.args.lexemes.now c.requires.named in
-    let open_ = stands_at s.Open (c.args.at + 1) c.args.lexemes.now (c.if-not-stands.ensures.0 refl) in
     let f = rw c.in-Some-2.is at c.in_ok-arguments.ensures in
     let l = c.call.ensures in
-    let here = at_place (c.args.at + 1) c.args.lexemes.now c.index-lexemes-open.result open_.0.within in
     let q = ap height l.0 ∙ height-Call _ _ _ in
-    let w = is_call c.in-Some.function.place c.in-Some.function.count c.args.name.now at.0.mark _ c.in-Some-2.arguments.values _ at.1 c.requires.called
-    (at.0.here ∙ ap (λ v. at.0.mark ∷ v) here) (rw here at (c.if-not-stands.ensures.0 refl)) c.in-Some.ensures f.0 (sym c.len.ensures ∙ c.if-len-function.false) in
-    (rw (l.0, l.2) w, omega (arith, l.1, f.1, q), omega (arith, l.1, f.2, c.requires.some), omega (arith, l.2, f.3), rw l.2 f.4)
+    let w = is_call c.args.at c.args.lexemes.now _ c.in-Some.function.place c.in-Some.function.count c.args.name.now c.in-Some-2.arguments.values
+    c.requires.named c.requires.called (c.if-not-stands.ensures.0 refl) c.in-Some.ensures f.0 (sym c.len.ensures ∙ c.if-len-function.false) l.0 in
+    (rw l.2 w, omega (arith, l.1, f.1, q), omega (arith, l.1, f.2, c.requires.some), omega (arith, l.2, f.3), rw l.2 f.4)
 
 pub arguments_at-returns-then-stands : goal.arguments_at-returns-then-stands
 arguments_at-returns-then-stands t c =
