@@ -1,5 +1,5 @@
 -- At the front of some signs stands at most one definition.
-use Rattle.std.proofs.Common.{◌≡◌, ℕ, ◌+◌, ◌-◌, ◌<◌, ◌≤◌, List, [], ◌∷◌, ◌++◌, length, drop, take, ap, sym, ◌∙◌, refl, subst, arith, append_assoc, length-append, length-drop}
+use Rattle.std.proofs.Common.{◌≡◌, ℕ, ◌+◌, ◌-◌, ◌<◌, ◌≤◌, List, [], ◌∷◌, ◌++◌, length, map, drop, take, ap, sym, ◌∙◌, refl, subst, arith, append_assoc, length-append, length-drop}
 use Rattle.std.proofs.lemmas.List.{drop_at, drop-drop, take-append-drop, append_cancel_right, map-append, length-map}
 use Rattle.po_straight.specs.declared.lexeme.Sign.{Sign}
 use Rattle.po_straight.specs.declared.lexeme.Sign.TheVariants as s
@@ -7,8 +7,9 @@ use Rattle.po_straight.specs.declared.lexeme.Lexeme.{Lexeme}
 use Rattle.po_straight.specs.declared.expression.Expression.{Expression}
 use Rattle.po_straight.specs.declared.definition.Definition.{Definition}
 use Rattle.po_straight.specs.Distinct.{AllDiffer}
+use Rattle.po_straight.specs.Scopes.{Scope, Signature, NamesDiffer}
 use Rattle.po_straight.specs.Expressions.{IsExpression}
-use Rattle.po_straight.specs.Definitions.{signs, parameter_signs, heading_signs}
+use Rattle.po_straight.specs.Definitions.{signs, parameter_signs, heading_signs, known_with, scope_of}
 use Rattle.po_straight.specs.Outline.{Leads, IsOpen, IsBody, Starts}
 use Rattle.po_straight.proofs.Splits.{split_same}
 use Rattle.po_straight.proofs.Listings.{commas}
@@ -47,16 +48,16 @@ heading_long name ps xs at end h in' =
     (omega arith, omega arith)
 
 -- the heading and the body of a definition
-pub record Parts (d : Definition) (xs left : List Lexeme) : Type 0 where
+pub record Parts (earlier : List Signature) (d : Definition) (xs left : List Lexeme) : Type 0 where
   pub head : List Lexeme
   pub middle : List Lexeme
   pub parts : xs ≡ head ++ middle
   pub heading : Leads (heading_signs d.name d.parameters) xs middle
-  pub body : IsBody d.parameters d.line d.value middle left
+  pub body : IsBody (scope_of earlier d) d.line d.value middle left
   pub distinct : AllDiffer d.parameters
 
-pub parts_of : (d : Definition) (xs left : List Lexeme) → Starts d xs left → Parts d xs left
-parts_of d xs left h =
+pub parts_of : (earlier : List Signature) (d : Definition) (xs left : List Lexeme) → Starts earlier d xs left → Parts earlier d xs left
+parts_of earlier d xs left h =
     let w = h.defined in
     let middle : List Lexeme = record { sign = s.Return; line = d.line } ∷ (w.value ++ (w.tail ++ left)) in
     let whole : xs ≡ w.head ++ middle =
@@ -72,9 +73,9 @@ parts_of d xs left h =
     }
 
 -- a heading and a body make a definition
-pub starts_with : (d : Definition) (xs : List Lexeme) (at end : ℕ) (left : List Lexeme) → at ≤ end → Leads (heading_signs d.name d.parameters) (drop at xs) (drop end xs) →
-    AllDiffer d.parameters → IsBody d.parameters d.line d.value (drop end xs) left → Starts d (drop at xs) left
-starts_with d xs at end left low h differ b =
+pub starts_with : (earlier : List Signature) (d : Definition) (xs : List Lexeme) (at end : ℕ) (left : List Lexeme) → at ≤ end → Leads (heading_signs d.name d.parameters) (drop at xs) (drop end xs) →
+    AllDiffer d.parameters → IsBody (scope_of earlier d) d.line d.value (drop end xs) left → Starts earlier d (drop at xs) left
+starts_with earlier d xs at end left low h differ b =
     let head : List Lexeme = take (end - at) (drop at xs) in
     let e : at + (end - at) ≡ end = omega arith in
     let split : drop at xs ≡ head ++ drop end xs =
@@ -99,20 +100,20 @@ abbrev first_line : List Lexeme → ℕ
 first_line [] = 0
 first_line (x ∷ xs) = x.line
 
-pub body_same : (ps : List (List ℕ)) (line other : ℕ) (x y : Expression) (xs left rest : List Lexeme) → AllDiffer ps →
-    IsBody ps line x xs left → IsBody ps other y xs rest → (line ≡ other) × (x ≡ y) × (left ≡ rest)
-body_same ps line other x y xs left rest differ h g =
+pub body_same : (scope : Scope) (line other : ℕ) (x y : Expression) (xs left rest : List Lexeme) → NamesDiffer scope →
+    IsBody scope line x xs left → IsBody scope other y xs rest → (line ≡ other) × (x ≡ y) × (left ≡ rest)
+body_same scope line other x y xs left rest differ h g =
     let q : record { sign = s.Return; line = line } ∷ (h.range ++ (h.tail ++ left)) ≡ record { sign = s.Return; line = other } ∷ (g.range ++ (g.tail ++ rest)) = sym h.parts ∙ g.parts in
     let first : line ≡ other = ap first_line q in
     let behind : h.range ++ (h.tail ++ left) ≡ g.range ++ (g.tail ++ rest) = cc in
     let p = split_same IsOpen h.range g.range (h.tail ++ left) (g.tail ++ rest) (all_open h.valued.printed) (all_open g.valued.printed)
     (open_ends h.tail left h.ending) (open_ends g.tail rest g.ending) behind in
     let range : h.range ≡ g.range = p.0 in
-    let v : IsExpression ps x h.range = h.valued in
+    let v : IsExpression scope x h.range = h.valued in
     let l : length h.tail ≡ length g.tail = two_long h.tail h.ending ∙ sym (two_long g.tail g.ending) in
     let a : length (h.tail ++ left) ≡ length (g.tail ++ rest) = ap length p.1 in
     let n : length left ≡ length rest = omega (arith, length-append h.tail left, length-append g.tail rest, a, l) in
-    (first, expression_same ps x y g.range differ (rw range at v) g.valued, suffix_same h.tail g.tail left rest p.1 n)
+    (first, expression_same scope x y g.range differ (rw range at v) g.valued, suffix_same h.tail g.tail left rest p.1 n)
 
 definition_same : (d e : Definition) → d.name ≡ e.name → d.parameters ≡ e.parameters → d.line ≡ e.line → d.value ≡ e.value → d ≡ e
 definition_same d e n p l v =
@@ -128,33 +129,50 @@ middle_same xs head middle behind front e f same =
     sym (length-map middle (λ x. x.sign)) ∙ ap length same ∙ length-map behind (λ x. x.sign) in
     suffix_same head front middle behind (sym e ∙ f) l
 
-pub starts_same : (d e : Definition) (xs left rest : List Lexeme) → Starts d xs left → Starts e xs rest → (d ≡ e) × (left ≡ rest)
-starts_same d e xs left rest h g =
-    let p = parts_of d xs left h in
-    let q = parts_of e xs rest g in
-    let same = heading_same d.name e.name d.parameters e.parameters (signs p.middle) (signs q.middle) (sym p.heading ∙ q.heading) in
-    let names : d.parameters ≡ e.parameters = same.1 in
-    let middle : p.middle ≡ q.middle = middle_same xs p.head p.middle q.middle q.head p.parts q.parts same.2 in
-    let own : IsBody d.parameters d.line d.value p.middle left = p.body in
-    let moved : IsBody e.parameters d.line d.value q.middle left =
-    subst (λ v. IsBody v d.line d.value q.middle left) names (subst (λ v. IsBody d.parameters d.line d.value v left) middle own) in
-    let b = body_same e.parameters d.line e.line d.value e.value q.middle left rest q.distinct moved q.body in
-    (definition_same d e same.0 names b.0 b.1, b.2)
+-- definitions of one name and the same parameters have one scope
+scope_same : (earlier : List Signature) (d : Definition) (name : List ℕ) (ps : List (List ℕ)) → d.name ≡ name → d.parameters ≡ ps →
+    scope_of earlier d ≡ record { parameters = ps; functions = earlier ++ record { name = name; count = length ps } ∷ [] }
+scope_same earlier d name ps n p =
+    ap (λ v. record { parameters = d.parameters; functions = earlier ++ record { name = v; count = length d.parameters } ∷ [] }) n ∙
+    ap (λ v. record { parameters = v; functions = earlier ++ record { name = name; count = length v } ∷ [] }) p
+
+pub starts_same : (earlier : List Signature) (d e : Definition) (xs left rest : List Lexeme) → AllDiffer (map (λ f. f.name) (known_with earlier d)) →
+    Starts earlier d xs left → Starts earlier e xs rest → (d ≡ e) × (left ≡ rest)
+starts_same earlier d e xs left rest differ h g =
+    let p = parts_of earlier d xs left h in
+    let q = parts_of earlier e xs rest g in
+    let same = heading_same e.name d.name e.parameters d.parameters (signs q.middle) (signs p.middle) (sym q.heading ∙ p.heading) in
+    let middle : q.middle ≡ p.middle = middle_same xs q.head q.middle p.middle p.head q.parts p.parts same.2 in
+    let other : IsBody (scope_of earlier e) e.line e.value q.middle rest = q.body in
+    let moved : IsBody (scope_of earlier d) e.line e.value p.middle rest =
+    subst (λ v. IsBody v e.line e.value p.middle rest) (scope_same earlier e d.name d.parameters same.0 same.1) (subst (λ v. IsBody (scope_of earlier e) e.line e.value v rest) middle other) in
+    let b = body_same (scope_of earlier d) d.line e.line d.value e.value p.middle left rest (record { parameters = p.distinct; functions = differ }) p.body moved in
+    (definition_same d e (sym same.0) (sym same.1) b.0 b.1, b.2)
 
 -- no definition: no heading
-pub no_heading : (xs : List Lexeme) → ((name : List ℕ) (ps : List (List ℕ)) (left : List Sign) → AllDiffer ps → signs xs ≡ heading_signs name ps ++ left → ⊥) →
-    (d : Definition) (left : List Lexeme) → Starts d xs left → ⊥
-no_heading xs none d left h = let p = parts_of d xs left h in none d.name d.parameters (signs p.middle) p.distinct p.heading
+pub no_heading : (earlier : List Signature) (xs : List Lexeme) → ((name : List ℕ) (ps : List (List ℕ)) (left : List Sign) → AllDiffer ps → signs xs ≡ heading_signs name ps ++ left → ⊥) →
+    (d : Definition) (left : List Lexeme) → Starts earlier d xs left → ⊥
+no_heading earlier xs none d left h = let p = parts_of earlier d xs left h in none d.name d.parameters (signs p.middle) p.distinct p.heading
 
--- no definition: no body behind its heading
-pub no_body : (name : List ℕ) (ps : List (List ℕ)) (xs : List Lexeme) (at end : ℕ) → at ≤ end → Leads (heading_signs name ps) (drop at xs) (drop end xs) →
-    ((line : ℕ) (value : Expression) (left : List Lexeme) → IsBody ps line value (drop end xs) left → ⊥) → (d : Definition) (left : List Lexeme) → Starts d (drop at xs) left → ⊥
-no_body name ps xs at end low h none d left g =
-    let p = parts_of d (drop at xs) left g in
-    let same = heading_same d.name name d.parameters ps (signs p.middle) (signs (drop end xs)) (sym p.heading ∙ h) in
-    let e : at + (end - at) ≡ end = omega arith in
-    let split : drop at xs ≡ take (end - at) (drop at xs) ++ drop end xs =
-    sym (take-append-drop (end - at) (drop at xs)) ∙ ap (λ v. take (end - at) (drop at xs) ++ v) (drop-drop (end - at) at xs ∙ ap (λ n. drop n xs) e) in
-    let middle : p.middle ≡ drop end xs = middle_same (drop at xs) p.head p.middle (drop end xs) (take (end - at) (drop at xs)) p.parts split same.2 in
-    let own : IsBody d.parameters d.line d.value p.middle left = p.body in
-    none d.line d.value left (subst (λ v. IsBody v d.line d.value (drop end xs) left) same.1 (subst (λ v. IsBody d.parameters d.line d.value v left) middle own))
+module _ (earlier : List Signature) (name : List ℕ) (ps : List (List ℕ)) (xs : List Lexeme) (at end : ℕ) (h : Leads (heading_signs name ps) (drop at xs) (drop end xs)) where
+  -- a definition has the name of its heading
+  pub named_so : (d : Definition) (left : List Lexeme) → Starts earlier d (drop at xs) left → d.name ≡ name
+  named_so d left g =
+      let p = parts_of earlier d (drop at xs) left g in
+      (heading_same d.name name d.parameters ps (signs p.middle) (signs (drop end xs)) (sym p.heading ∙ h)).0
+
+  -- no definition: no body behind its heading
+  pub no_body : at ≤ end →
+      ((line : ℕ) (value : Expression) (left : List Lexeme) →
+      IsBody (record { parameters = ps; functions = earlier ++ record { name = name; count = length ps } ∷ [] }) line value (drop end xs) left → ⊥) →
+      (d : Definition) (left : List Lexeme) → Starts earlier d (drop at xs) left → ⊥
+  no_body low none d left g =
+      let p = parts_of earlier d (drop at xs) left g in
+      let same = heading_same d.name name d.parameters ps (signs p.middle) (signs (drop end xs)) (sym p.heading ∙ h) in
+      let e : at + (end - at) ≡ end = omega arith in
+      let split : drop at xs ≡ take (end - at) (drop at xs) ++ drop end xs =
+      sym (take-append-drop (end - at) (drop at xs)) ∙ ap (λ v. take (end - at) (drop at xs) ++ v) (drop-drop (end - at) at xs ∙ ap (λ n. drop n xs) e) in
+      let middle : p.middle ≡ drop end xs = middle_same (drop at xs) p.head p.middle (drop end xs) (take (end - at) (drop at xs)) p.parts split same.2 in
+      let own : IsBody (scope_of earlier d) d.line d.value p.middle left = p.body in
+      none d.line d.value left
+      (subst (λ v. IsBody v d.line d.value (drop end xs) left) (scope_same earlier d name ps same.0 same.1) (subst (λ v. IsBody (scope_of earlier d) d.line d.value v left) middle own))

@@ -8,7 +8,8 @@ use Rattle.po_straight.specs.declared.lexeme.Sign.{Sign}
 use Rattle.po_straight.specs.declared.lexeme.Sign.TheVariants as s
 use Rattle.po_straight.specs.declared.lexeme.Lexeme.{Lexeme}
 use Rattle.po_straight.specs.declared.expression.Expression.{Expression}
-use Rattle.po_straight.specs.Expressions.{IsOperator, add, sub, mul, div, rem, Prints, parameter, constant, paren, binary, IsExpression}
+use Rattle.po_straight.specs.Scopes.{Scope}
+use Rattle.po_straight.specs.Expressions.{IsOperator, add, sub, mul, div, rem, Prints, parameter, constant, paren, call, binary, PrintsAll, empty, single, comma, IsExpression}
 use Rattle.po_straight.specs.Definitions.{signs}
 use Rattle.po_straight.specs.Outline.{Begins, IsOpen}
 use Rattle.po_straight.proofs.Splits.{split_same}
@@ -42,16 +43,29 @@ operator_open mul e = cc
 operator_open div e = cc
 operator_open rem e = cc
 
-pub all_open : {ps : List (List ℕ)} {m : ℕ} {x : Expression} {xs : List Lexeme} → Prints ps m x xs → All IsOpen xs
-all_open (parameter n line name q) = All-cons IsOpen (record { sign = s.Name name; line = line }) [] (λ e. cc) (All-nil IsOpen)
-all_open (constant value line) = All-cons IsOpen (record { sign = s.Constant value; line = line }) [] (λ e. cc) (All-nil IsOpen)
-all_open (paren level first last x xs w) =
-    All-cons IsOpen (record { sign = s.Open; line = first }) (xs ++ record { sign = s.Close; line = last } ∷ []) (λ e. cc)
-    (All-append IsOpen xs (record { sign = s.Close; line = last } ∷ []) (all_open w)
-    (All-cons IsOpen (record { sign = s.Close; line = last }) [] (λ e. cc) (All-nil IsOpen)))
-all_open (binary o sign level line m k x y xs ys v low high w u) =
-    All-append IsOpen xs (record { sign = sign; line = line } ∷ ys) (all_open w)
-    (All-cons IsOpen (record { sign = sign; line = line }) ys (operator_open v) (all_open u))
+open_closed : (xs : List Lexeme) (last : ℕ) → All IsOpen xs → All IsOpen (xs ++ record { sign = s.Close; line = last } ∷ [])
+open_closed xs last h =
+    All-append IsOpen xs (record { sign = s.Close; line = last } ∷ []) h (All-cons IsOpen (record { sign = s.Close; line = last }) [] (λ e. cc) (All-nil IsOpen))
+
+mutual
+  pub all_open : {scope : Scope} {m : ℕ} {x : Expression} {xs : List Lexeme} → Prints scope m x xs → All IsOpen xs
+  all_open (parameter n line name q) = All-cons IsOpen (record { sign = s.Name name; line = line }) [] (λ e. cc) (All-nil IsOpen)
+  all_open (constant value line) = All-cons IsOpen (record { sign = s.Constant value; line = line }) [] (λ e. cc) (All-nil IsOpen)
+  all_open (paren level first last x xs w) =
+      All-cons IsOpen (record { sign = s.Open; line = first }) (xs ++ record { sign = s.Close; line = last } ∷ []) (λ e. cc) (open_closed xs last (all_open w))
+  all_open (call f line first last called arguments xs q free k all) =
+      All-cons IsOpen (record { sign = s.Name called.name; line = line }) (record { sign = s.Open; line = first } ∷ (xs ++ record { sign = s.Close; line = last } ∷ [])) (λ e. cc)
+      (All-cons IsOpen (record { sign = s.Open; line = first }) (xs ++ record { sign = s.Close; line = last } ∷ []) (λ e. cc) (open_closed xs last (arguments_open all)))
+  all_open (binary o sign level line m k x y xs ys v low high w u) =
+      All-append IsOpen xs (record { sign = sign; line = line } ∷ ys) (all_open w)
+      (All-cons IsOpen (record { sign = sign; line = line }) ys (operator_open v) (all_open u))
+
+  arguments_open : {scope : Scope} {xs : List Expression} {ys : List Lexeme} → PrintsAll scope xs ys → All IsOpen ys
+  arguments_open empty = All-nil IsOpen
+  arguments_open (single level x xs w) = all_open w
+  arguments_open (comma level line x y ys xs rest w v) =
+      All-append IsOpen xs (record { sign = s.Comma; line = line } ∷ rest) (all_open w)
+      (All-cons IsOpen (record { sign = s.Comma; line = line }) rest (λ e. cc) (arguments_open v))
 
 pub closed_by : (tail left : List Lexeme) → signs tail ≡ s.Semicolon ∷ (s.CloseBrace ∷ []) → signs (tail ++ left) ≡ s.Semicolon ∷ (s.CloseBrace ∷ signs left)
 closed_by [] left e = absurd (cc)
@@ -81,8 +95,8 @@ module _ (xs : List Lexeme) (start stop : ℕ) (low : start ≤ stop) (opens : A
   stops y ys e o = let b : Begins s.Semicolon (y ∷ ys) = rw e at (here (drop_next xs stop y ys e).1) in o b
 
   -- an expression and the two signs behind it are split at the first semicolon
-  pub split_at_stop : (ps : List (List ℕ)) (x : Expression) (range tail left : List Lexeme) → IsExpression ps x range →
+  pub split_at_stop : (scope : Scope) (x : Expression) (range tail left : List Lexeme) → IsExpression scope x range →
       signs tail ≡ s.Semicolon ∷ (s.CloseBrace ∷ []) → range ++ (tail ++ left) ≡ drop start xs →
       (range ≡ take (stop - start) (drop start xs)) × (tail ++ left ≡ drop stop xs)
-  split_at_stop ps x range tail left w e q =
+  split_at_stop scope x range tail left w e q =
       split_same IsOpen range (take (stop - start) (drop start xs)) (tail ++ left) (drop stop xs) (all_open w.printed) opens (open_ends tail left e) stops (q ∙ sym together)

@@ -9,14 +9,16 @@ mod Nowhere
 mod Following
 mod Fronts
 mod Placing
+mod Signing
 pub mod Heights
-pub mod Operators
+pub mod Operations
 pub mod Few
-pub mod Alike
+pub mod Readings
 pub mod Sound
 pub mod Complete
 pub mod Single
 pub mod Rules
+pub mod Calls
 mod Listings
 mod Headers
 mod Bodies

@@ -6,7 +6,7 @@ use Rattle.std.specs.Ordering.{nat_cmp, is_eq}
 use Rattle.std.specs.Cmp.Lexicographic.{slice_cmp}
 use Rattle.std.proofs.lemmas.Map.Text.{is_eq-slice_cmp}
 use Rattle.std.proofs.lemmas.Slice.Eq.{bytes_eq-Decides}
-use Rattle.std.proofs.lemmas.List.Elements.{Contains-push_cases, Contains-append_right}
+use Rattle.std.proofs.lemmas.List.Elements.{Contains-push_cases, Contains-append_left, Contains-append_right}
 use Rattle.std.proofs.lemmas.List.{same_from_push}
 use Rattle.po_straight.specs.Distinct.{AllDiffer}
 use Rattle.po_straight.specs.Named.{ArePlaced}
@@ -26,6 +26,11 @@ differ_push (y ∷ ys) x d new = (
   (λ h. elim (Contains-push_cases ys x y h) as (λ _. ⊥) [ inl k ↦ d.0 k | inr e ↦ new (0, omega arith, sym e) ]),
   differ_push ys x d.1 (λ h. new (suc h.0, omega (arith, h.1), h.2)),
 )
+
+-- the names at the front differ
+pub differ_front : (xs ys : List (List ℕ)) → AllDiffer (xs ++ ys) → AllDiffer xs
+differ_front [] ys d = tt
+differ_front (x ∷ xs) ys d = ((λ h. d.0 (Contains-append_left xs ys x h)), differ_front xs ys d.1)
 
 -- a name that stands before can't stand again
 pub differ_twice : (xs ys : List (List ℕ)) (x : List ℕ) → Contains xs x → AllDiffer (xs ++ (x ∷ ys)) → ⊥

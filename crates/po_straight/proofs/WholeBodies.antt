@@ -5,7 +5,7 @@ use Rattle.std.proofs.lemmas.List.{take-append-drop, drop-drop}
 use Rattle.po_straight.specs.declared.lexeme.Sign.TheVariants as s
 use Rattle.po_straight.specs.declared.lexeme.Lexeme.{Lexeme}
 use Rattle.po_straight.specs.declared.expression.Expression.{Expression}
-use Rattle.po_straight.specs.Distinct.{AllDiffer}
+use Rattle.po_straight.specs.Scopes.{Scope, NamesDiffer}
 use Rattle.po_straight.specs.Expressions.{IsExpression}
 use Rattle.po_straight.specs.Definitions.{signs, nodes_times_registers}
 use Rattle.po_straight.specs.Outline.{Begins, IsOpen, IsBody}
@@ -13,8 +13,8 @@ use Rattle.po_straight.proofs.Listings.{drop_next, begins_not, second_not, two_s
 use Rattle.po_straight.proofs.Bodies.{first_of, closed_by, split_at_stop, together}
 use Rattle.po_straight.proofs.Single.{one_expression}
 
-pub expression_same : (ps : List (List ℕ)) (x y : Expression) (range : List Lexeme) → AllDiffer ps → IsExpression ps x range → IsExpression ps y range → x ≡ y
-expression_same ps x y range differ h g = (one_expression ps h.level g.level x y range differ h.printed g.printed).0
+pub expression_same : (scope : Scope) (x y : Expression) (range : List Lexeme) → NamesDiffer scope → IsExpression scope x range → IsExpression scope y range → x ≡ y
+expression_same scope x y range differ h g = (one_expression scope h.level g.level x y range differ h.printed g.printed).0
 
 pub return_first : (xs : List Lexeme) (at : ℕ) (d : Lexeme) → Begins s.Return (drop at xs) →
     drop at xs ≡ record { sign = s.Return; line = (get_or xs at d).line } ∷ drop (at + 1) xs
@@ -28,41 +28,41 @@ return_first xs at d h = first (drop at xs) refl h
         ap (λ v. y ∷ v) r.0 ∙ ap (λ v. record { sign = v; line = y.line } ∷ drop (at + 1) xs) b ∙
         ap (λ v. record { sign = s.Return; line = v.line } ∷ drop (at + 1) xs) (sym g)
 
-module _ (ps : List (List ℕ)) (xs : List Lexeme) (at stop : ℕ) (low : at + 1 ≤ stop) (opens : All IsOpen (take (stop - (at + 1)) (drop (at + 1) xs)))
+module _ (scope : Scope) (xs : List Lexeme) (at stop : ℕ) (low : at + 1 ≤ stop) (opens : All IsOpen (take (stop - (at + 1)) (drop (at + 1) xs)))
     (here : stop < length xs → Begins s.Semicolon (drop stop xs)) where
-  pub inner : (line : ℕ) (value : Expression) (left : List Lexeme) (b : IsBody ps line value (drop at xs) left) →
+  pub inner : (line : ℕ) (value : Expression) (left : List Lexeme) (b : IsBody scope line value (drop at xs) left) →
       (b.range ≡ take (stop - (at + 1)) (drop (at + 1) xs)) × (b.tail ++ left ≡ drop stop xs)
   inner line value left b =
-      split_at_stop xs (at + 1) stop low opens here ps value b.range b.tail left b.valued b.ending (drop_next xs at _ _ b.parts).0
+      split_at_stop xs (at + 1) stop low opens here scope value b.range b.tail left b.valued b.ending (drop_next xs at _ _ b.parts).0
 
-  behind : (line : ℕ) (value : Expression) (left : List Lexeme) → IsBody ps line value (drop at xs) left →
+  behind : (line : ℕ) (value : Expression) (left : List Lexeme) → IsBody scope line value (drop at xs) left →
       signs (drop stop xs) ≡ s.Semicolon ∷ (s.CloseBrace ∷ signs left)
   behind line value left b = ap (λ v. signs v) (sym (inner line value left b).1) ∙ closed_by b.tail left b.ending
 
-  pub no_semicolon : (Begins s.Semicolon (drop stop xs) → ⊥) → (line : ℕ) (value : Expression) (left : List Lexeme) → IsBody ps line value (drop at xs) left → ⊥
+  pub no_semicolon : (Begins s.Semicolon (drop stop xs) → ⊥) → (line : ℕ) (value : Expression) (left : List Lexeme) → IsBody scope line value (drop at xs) left → ⊥
   no_semicolon none line value left b = begins_not s.Semicolon (drop stop xs) (s.CloseBrace ∷ signs left) none (behind line value left b)
 
   pub no_brace : Begins s.Semicolon (drop stop xs) → (Begins s.CloseBrace (drop (stop + 1) xs) → ⊥) →
-      (line : ℕ) (value : Expression) (left : List Lexeme) → IsBody ps line value (drop at xs) left → ⊥
+      (line : ℕ) (value : Expression) (left : List Lexeme) → IsBody scope line value (drop at xs) left → ⊥
   no_brace h none line value left b = second_not s.Semicolon s.CloseBrace xs stop (signs left) h none (behind line value left b)
 
-  pub no_value : ((x : Expression) → IsExpression ps x (take (stop - (at + 1)) (drop (at + 1) xs)) → ⊥) →
-      (line : ℕ) (value : Expression) (left : List Lexeme) → IsBody ps line value (drop at xs) left → ⊥
+  pub no_value : ((x : Expression) → IsExpression scope x (take (stop - (at + 1)) (drop (at + 1) xs)) → ⊥) →
+      (line : ℕ) (value : Expression) (left : List Lexeme) → IsBody scope line value (drop at xs) left → ⊥
   no_value none line value left b =
-      none value (let e = (inner line value left b).0 in let w : IsExpression ps value b.range = b.valued in rw e at w)
+      none value (let e = (inner line value left b).0 in let w : IsExpression scope value b.range = b.valued in rw e at w)
 
-  pub too_large : (own : Expression) → AllDiffer ps → IsExpression ps own (take (stop - (at + 1)) (drop (at + 1) xs)) → 2 ^ 22 < nodes_times_registers (length ps) own →
-      (line : ℕ) (value : Expression) (left : List Lexeme) → IsBody ps line value (drop at xs) left → ⊥
+  pub too_large : (own : Expression) → NamesDiffer scope → IsExpression scope own (take (stop - (at + 1)) (drop (at + 1) xs)) → 2 ^ 22 < nodes_times_registers (length scope.parameters) own →
+      (line : ℕ) (value : Expression) (left : List Lexeme) → IsBody scope line value (drop at xs) left → ⊥
   too_large own differ w large line value left b =
       let e = (inner line value left b).0 in
-      let v : IsExpression ps value b.range = b.valued in
-      let same : value ≡ own = expression_same ps value own _ differ (rw e at v) w in
-      let small : nodes_times_registers (length ps) value ≤ 2 ^ 22 = b.small in
-      let z : nodes_times_registers (length ps) own ≤ 2 ^ 22 = rw same at small in omega arith
+      let v : IsExpression scope value b.range = b.valued in
+      let same : value ≡ own = expression_same scope value own _ differ (rw e at v) w in
+      let small : nodes_times_registers (length scope.parameters) value ≤ 2 ^ 22 = b.small in
+      let z : nodes_times_registers (length scope.parameters) own ≤ 2 ^ 22 = rw same at small in omega arith
 
   pub body_whole : (d : Lexeme) (own : Expression) → Begins s.Return (drop at xs) → Begins s.Semicolon (drop stop xs) → Begins s.CloseBrace (drop (stop + 1) xs) →
-      IsExpression ps own (take (stop - (at + 1)) (drop (at + 1) xs)) → nodes_times_registers (length ps) own ≤ 2 ^ 22 →
-      IsBody ps (get_or xs at d).line own (drop at xs) (drop (stop + 2) xs)
+      IsExpression scope own (take (stop - (at + 1)) (drop (at + 1) xs)) → nodes_times_registers (length scope.parameters) own ≤ 2 ^ 22 →
+      IsBody scope (get_or xs at d).line own (drop at xs) (drop (stop + 2) xs)
   body_whole d own h semicolon brace w small =
       let two = two_signs s.Semicolon s.CloseBrace xs stop semicolon brace in
       let t : take 2 (drop stop xs) ++ drop (stop + 2) xs ≡ drop stop xs =

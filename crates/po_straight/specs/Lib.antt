@@ -1,5 +1,6 @@
 pub mod Spelling
 pub mod Distinct
+pub mod Scopes
 pub mod Expressions
 pub mod Definitions
 pub mod Lexing

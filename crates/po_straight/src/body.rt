@@ -3,16 +3,16 @@ ghost use Rattle.std.specs.Prelude.{List as Sequence};
 ghost use Rattle.po_straight.specs.declared.lexeme.Sign.TheVariants as s;
 ghost use Rattle.po_straight.specs.declared.lexeme.Lexeme.{Lexeme as Placed};
 ghost use Rattle.po_straight.specs.declared.expression.Expression.{Expression as Tree};
-ghost use Rattle.po_straight.specs.Distinct.{AllDiffer};
+ghost use Rattle.po_straight.specs.Scopes.{NamesDiffer};
 ghost use Rattle.po_straight.specs.Expressions.{IsExpression};
-ghost use Rattle.po_straight.specs.Definitions.{operators, nodes_times_registers};
+ghost use Rattle.po_straight.specs.Definitions.{operations, nodes_times_registers};
 ghost use Rattle.po_straight.specs.Outline.{Begins, IsBody, IsOpen};
 
 use crate::expression::Expression;
 use crate::heading::stands;
 use crate::lexeme::{Lexeme, Sign};
-use crate::names::Parameters;
 use crate::read_expression::read_expression;
+use crate::scope::Scope;
 use po_base::Memory;
 use std::alloc::Global;
 
@@ -51,27 +51,27 @@ fn semicolon_from(lexemes: &[Lexeme], start: usize) -> usize
 /// How many nodes times registers the graph of a function has.
 pub(crate) fn graph_size_of(parameters: usize, value: &Expression) -> u64
     requires few { parameters ≤ 2 ^ 24 }
-    requires short { operators value.now ≤ 2 ^ 24 }
+    requires short { operations value.now ≤ 2 ^ 24 }
     ensures { result ≡ nodes_times_registers parameters value.now }
 {
-    let operators = u64::from(value.operators());
-    (operators + 1) * (parameters as u64 + operators)
+    let operations = u64::from(value.operations());
+    (operations + 1) * (parameters as u64 + operations)
 }
 
 /// The body `return EXPRESSION;}` at a place. Time linear in its signs but for the logarithm of the number of
-/// parameters.
+/// names in the scope.
 pub(crate) fn body_at(
     alloc: Global,
     lexemes: &[Lexeme],
     at: usize,
-    parameters: &Parameters,
+    scope: &Scope<'_>,
 ) -> Result<Option<Body>, Memory>
     requires short { length lexemes.now ≤ 2 ^ 24 }
-    requires few { length parameters.now ≤ 2 ^ 24 }
-    requires differ { AllDiffer parameters.now }
-    ensures found { IfOk result (λ found. IfSome found (λ body. IsBody parameters.now body.line body.value (drop at lexemes.now) (drop body.end lexemes.now))) }
+    requires few { length scope.now.parameters ≤ 2 ^ 24 }
+    requires differ { NamesDiffer scope.now }
+    ensures found { IfOk result (λ found. IfSome found (λ body. IsBody scope.now body.line body.value (drop at lexemes.now) (drop body.end lexemes.now))) }
     ensures within { IfOk result (λ found. IfSome found (λ body. (at < body.end) × (body.end ≤ length lexemes.now))) }
-    ensures none { IfOk result (λ found. IfNone found ((line : ℕ) (value : Tree) (left : Sequence Placed) → IsBody parameters.now line value (drop at lexemes.now) left → ⊥)) }
+    ensures none { IfOk result (λ found. IfNone found ((line : ℕ) (value : Tree) (left : Sequence Placed) → IsBody scope.now line value (drop at lexemes.now) left → ⊥)) }
 {
     if !stands(lexemes, at, &Sign::Return) {
         return Ok(None);
@@ -86,10 +86,10 @@ pub(crate) fn body_at(
         return Ok(None);
     }
     let range = &lexemes[start..stop];
-    let Some(value) = read_expression(alloc, range, parameters)? else {
+    let Some(value) = read_expression(alloc, range, scope)? else {
         return Ok(None);
     };
-    if graph_size_of(parameters.len(), &value) > MOST_GRAPH_SIZE {
+    if graph_size_of(scope.parameters(), &value) > MOST_GRAPH_SIZE {
         return Ok(None);
     }
     Ok(Some(Body {

@@ -1,13 +1,14 @@
-ghost use Rattle.std.specs.Prelude.{ℕ, List, ◌≡◌, ◌<◌, ◌^◌};
+ghost use Rattle.std.specs.Prelude.{ℕ, ◌≡◌, ◌<◌, ◌^◌, map, sum};
+ghost use Rattle.std.specs.Prelude.{List as Sequence};
 ghost use Rattle.po_straight.specs.declared.expression.Expression.{Expression as Tree};
 ghost use Rattle.po_straight.specs.declared.lexeme.Lexeme.{Lexeme};
-ghost use Rattle.po_straight.specs.Distinct.{AllDiffer};
+ghost use Rattle.po_straight.specs.Scopes.{Scope, NamesDiffer};
 ghost use Rattle.po_straight.specs.Expressions.{Prints};
-ghost use Rattle.po_straight.specs.Definitions.{operators as operators_in};
+ghost use Rattle.po_straight.specs.Definitions.{operations as operations_in};
 
-use po_base::{Boxed, Op};
+use po_base::{Boxed, List, Op};
 
-/// The tree of an expression over int parameters and constants (C99 6.5).
+/// The tree of an expression over int parameters, constants and functions (C99 6.5).
 #[derive(Debug, Drop)]
 pub enum Expression {
     /// A parameter, by its place in the parameter list.
@@ -16,29 +17,40 @@ pub enum Expression {
     Constant(u32),
     /// An expression in parentheses.
     Paren(Boxed<Expression>),
-    /// One of `+ - * / %`, the line of its operator, and its operands.
+    /// A call: the place of the called function among the definitions of the file, from 0; the line of the
+    /// opening parenthesis, from 1; and the arguments.
+    Call(u32, u32, List<Expression>),
+    /// One of `+ - * / %`, the line of its operator, from 1, and its operands.
     Binary(Op, u32, Boxed<Expression>, Boxed<Expression>),
 }
 
 impl Expression {
-    /// How many operators the expression has. Time is linear in its nodes; the recursion is as deep as the
-    /// expression is high.
-    pub fn operators(&self) -> u32
-        requires { operators_in self.now < 2 ^ 32 }
-        ensures { result ≡ operators_in self.now }
+    /// How many operators and calls the expression has. Time is linear in its nodes; the recursion is as deep as
+    /// the expression is high.
+    pub fn operations(&self) -> u32
+        requires { operations_in self.now < 2 ^ 32 }
+        ensures { result ≡ operations_in self.now }
     {
         match self {
             Expression::Parameter(_) => 0,
             Expression::Constant(_) => 0,
-            Expression::Paren(inner) => inner.get().operators(),
+            Expression::Paren(inner) => inner.get().operations(),
+            Expression::Call(_, _, arguments) => {
+                let mut count = 1u32;
+                for argument in arguments.as_slice() {
+                    count += argument.operations();
+                }
+                count
+            }
             Expression::Binary(_, _, left, right) => {
-                left.get().operators() + right.get().operators() + 1
+                left.get().operations() + right.get().operations() + 1
             }
         }
     }
 }
 
-/// Signs are those of one expression at most, which has one level, where no two parameters have the same name.
+/// Signs are those of one expression at most, which has one level, where no two parameters and no two functions
+/// have the same name.
 pub fn one_expression()
-    ensures { (parameters : List (List ℕ)) (m k : ℕ) (x y : Tree) (signs : List Lexeme) → AllDiffer parameters → Prints parameters m x signs → Prints parameters k y signs → (x ≡ y) × (m ≡ k) }
+    ensures { (scope : Scope) (m k : ℕ) (x y : Tree) (signs : Sequence Lexeme) → NamesDiffer scope → Prints scope m x signs → Prints scope k y signs → (x ≡ y) × (m ≡ k) }
 {}

@@ -1,9 +1,11 @@
 //! The reader of files of straight integer functions: the part of C that cproof serves so far. From the bytes of
 //! a file it gives the trees of its definitions `int NAME(PARAMETERS){return EXPRESSION;}`, exactly where the
-//! bytes are such a file, and there is one reading at most. It stands until the readers of whole C do.
+//! bytes are such a file, and there is one reading at most. An expression may call the functions that are defined
+//! before it and its own. The crate stands until the readers of whole C do.
 //!
-//! From below: bytes, words and signs (`letters`, `word`, `lexeme`, `lexing`); expressions (`expression`,
-//! `names`, `read_expression`); definitions and the file (`definition`, `heading`, `body`, `reading`).
+//! From below: bytes, words and signs (`letters`, `word`, `lexeme`, `lexing`); expressions and the names in them
+//! (`names`, `scope`, `expression`, `read_expression`); definitions and the file (`definition`, `heading`, `body`,
+//! `reading`).
 #![tactic(auto)]
 
 mod body;
@@ -16,6 +18,7 @@ mod lexing;
 mod names;
 mod read_expression;
 mod reading;
+mod scope;
 mod word;
 
 pub use definition::Definition;

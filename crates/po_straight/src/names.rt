@@ -1,4 +1,4 @@
-ghost use Rattle.std.specs.Prelude.{◌≡◌, ◌∷◌, [], ◌++◌, ◌<◌, ◌^◌, Some, MatchOption, Contains, slice_get, length, IfOk, MatchBool};
+ghost use Rattle.std.specs.Prelude.{◌≡◌, ◌∷◌, [], ◌++◌, ◌<◌, ◌^◌, Some, MatchOption, Contains, slice_get, length, IfOk, OnErr, MatchBool};
 ghost use Rattle.po_straight.specs.Distinct.{AllDiffer};
 
 use po_base::{List, Memory, Text};
@@ -53,7 +53,8 @@ impl Names {
     /// After `Memory` nothing has changed.
     pub(crate) fn insert(&mut self, name: Text) -> Result<bool, Memory>
         requires { length self.old < 2 ^ 31 }
-        ensures { IfOk result (λ added. MatchBool added ((self.new ≡ self.old ++ name ∷ []) × (Contains self.old name → ⊥)) ((self.new ≡ self.old) × Contains self.old name)) }
+        ensures kept { OnErr result (self.new ≡ self.old) }
+        ensures added { IfOk result (λ added. MatchBool added ((self.new ≡ self.old ++ name ∷ []) × (Contains self.old name → ⊥)) ((self.new ≡ self.old) × Contains self.old name)) }
     {
         let None = self.place(&name) else {
             return Ok(false);

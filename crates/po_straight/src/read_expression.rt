@@ -1,21 +1,25 @@
-ghost use Rattle.std.specs.Prelude.{ℕ, ◌≡◌, ◌≤◌, ◌<◌, ◌+◌, ◌^◌, ◌↔◌, max, IsTrue, length, drop, IfOk, IfSome, IfNone, MatchOption};
+ghost use Rattle.std.specs.Prelude.{ℕ, ◌≡◌, ◌≤◌, ◌<◌, ◌+◌, ◌^◌, max, Contains, length, drop, IfOk, IfSome, IfNone, MatchOption};
+ghost use Rattle.po_straight.specs.declared.lexeme.Sign.TheVariants as s;
 ghost use Rattle.po_straight.specs.declared.expression.Expression.{Expression as Tree};
 ghost use Rattle.po_straight.specs.declared.expression.Expression.TheVariants as e;
 ghost use Rattle.po_straight.specs.Expressions.{IsExpression, IsOperator};
-ghost use Rattle.po_straight.specs.Definitions.{operators};
-ghost use Rattle.po_straight.specs.Reading.{Reads, Operand, GoesOn};
-ghost use Rattle.po_straight.specs.Places.{BeginsWithClose, GoesOnBy, IsFound, Closed};
+ghost use Rattle.po_straight.specs.Definitions.{operations};
+ghost use Rattle.po_straight.specs.Scopes.{NamesDiffer};
+ghost use Rattle.po_straight.specs.Reading.{Reads, Operand, Arguments as ArgumentsOf, Items, GoesOn};
+ghost use Rattle.po_straight.specs.Outline.{Begins};
+ghost use Rattle.po_straight.specs.Places.{GoesOnBy, IsFound, AreFound, Closed};
 
 use crate::expression::Expression;
+use crate::heading::stands;
 use crate::lexeme::{Lexeme, Sign};
-use crate::names::Parameters;
-use po_base::{Boxed, Memory, Op};
+use crate::scope::{Called, Scope};
+use po_base::{Boxed, List, Memory, Op, Text};
 use std::alloc::Global;
 
 /// The most expressions on a path from the root of a tree to a leaf.
 const MOST_NESTED: u32 = 256;
 
-/// The level of operands, above those of the operators.
+/// The level of operands, above those of the operations.
 const OPERAND: u8 = 2;
 
 /// An expression that was read.
@@ -28,6 +32,16 @@ struct Found {
     end: usize,
 }
 
+/// The arguments of a call, which were read with the closing parenthesis.
+#[derive(Drop)]
+struct Arguments {
+    values: List<Expression>,
+    /// The most expressions on a path from the called name or the root of an argument to a leaf.
+    height: u32,
+    /// The place behind the closing parenthesis.
+    end: usize,
+}
+
 /// A binary operator where it stands.
 #[derive(Clone, Copy)]
 struct Operator {
@@ -35,16 +49,6 @@ struct Operator {
     /// 0 for sums, 1 for products.
     level: u8,
     line: u32,
-}
-
-/// Whether a closing parenthesis stands at a place.
-fn closes(lexemes: &[Lexeme], at: usize) -> bool
-    ensures { IsTrue result ↔ BeginsWithClose (drop at lexemes.now) }
-{
-    match lexemes.get(at) {
-        Some(lexeme) => matches!(lexeme.sign, Sign::Close),
-        None => false,
-    }
 }
 
 /// The operator of a sign, with its level.
@@ -105,6 +109,18 @@ fn enclose(alloc: Global, inner: Found) -> Result<Found, Memory>
     })
 }
 
+/// A call of a function with these arguments.
+fn call(function: Called, line: u32, arguments: Arguments) -> Found
+    requires { arguments.height < 2 ^ 31 }
+    ensures { (result.value ≡ e.Call function.place line arguments.values) × (result.height ≡ arguments.height + 1) × (result.end ≡ arguments.end) }
+{
+    Found {
+        value: Expression::Call(function.place, line, arguments.values),
+        height: arguments.height + 1,
+        end: arguments.end,
+    }
+}
+
 /// An operand, an operator and the operand on its right, as one expression.
 fn join(alloc: Global, left: Found, operator: Operator, right: Found) -> Result<Found, Memory>
     requires { left.height + right.height < 2 ^ 31 }
@@ -122,20 +138,21 @@ fn join(alloc: Global, left: Found, operator: Operator, right: Found) -> Result<
 }
 
 /// The expression of level `level` or a higher one that stands at a place, where there is one of a height of
-/// at most `depth`: its first operand, and the operators that go on with it.
+/// at most `depth`: its first operand, and the operations that go on with it.
 #[cycle(reader)]
 fn expression(
     alloc: Global,
     lexemes: &[Lexeme],
-    parameters: &Parameters,
+    scope: &Scope<'_>,
     at: usize,
     level: u8,
     depth: u32,
 ) -> Result<Option<Found>, Memory>
     requires shallow { depth < 2 ^ 16 }
-    ensures { IfOk result (λ found. IsFound (Reads parameters.now level) depth at lexemes.now found) }
+    requires differ { NamesDiffer scope.now }
+    ensures { IfOk result (λ found. IsFound (Reads scope.now level) depth at lexemes.now found) }
 {
-    let Some(mut found) = operand(alloc, lexemes, parameters, at, depth)? else {
+    let Some(mut found) = operand(alloc, lexemes, scope, at, depth)? else {
         return Ok(None);
     };
     let mut own = OPERAND;
@@ -144,14 +161,7 @@ fn expression(
             return Ok(None);
         }
         let next = found.end + 1;
-        let Some(right) = expression(
-            alloc,
-            lexemes,
-            parameters,
-            next,
-            operator.level + 1,
-            depth - 1,
-        )?
+        let Some(right) = expression(alloc, lexemes, scope, next, operator.level + 1, depth - 1)?
         else {
             return Ok(None);
         };
@@ -166,23 +176,24 @@ fn expression(
 fn operand(
     alloc: Global,
     lexemes: &[Lexeme],
-    parameters: &Parameters,
+    scope: &Scope<'_>,
     at: usize,
     depth: u32,
 ) -> Result<Option<Found>, Memory>
     requires shallow { depth < 2 ^ 16 }
-    ensures { IfOk result (λ found. IsFound (Operand parameters.now) depth at lexemes.now found) }
+    requires differ { NamesDiffer scope.now }
+    ensures { IfOk result (λ found. IsFound (Operand scope.now) depth at lexemes.now found) }
 {
     if depth == 0 || at >= lexemes.len() {
         return Ok(None);
     }
     match &lexemes[at].sign {
-        Sign::Name(name) => match parameters.place(name) {
+        Sign::Name(name) => match scope.parameter(name) {
             Some(n) => Ok(Some(leaf(Expression::Parameter(n), at))),
-            None => Ok(None),
+            None => call_at(alloc, lexemes, scope, name, at, depth),
         },
         Sign::Constant(value) => Ok(Some(leaf(Expression::Constant(*value), at))),
-        Sign::Open => match closed(alloc, lexemes, parameters, at + 1, depth - 1)? {
+        Sign::Open => match closed(alloc, lexemes, scope, at + 1, depth - 1)? {
             Some(inner) => Ok(Some(enclose(alloc, inner)?)),
             None => Ok(None),
         },
@@ -196,17 +207,18 @@ fn operand(
 fn closed(
     alloc: Global,
     lexemes: &[Lexeme],
-    parameters: &Parameters,
+    scope: &Scope<'_>,
     at: usize,
     depth: u32,
 ) -> Result<Option<Found>, Memory>
     requires shallow { depth < 2 ^ 16 }
-    ensures { IfOk result (λ found. IsFound (Closed parameters.now) depth at lexemes.now found) }
+    requires differ { NamesDiffer scope.now }
+    ensures { IfOk result (λ found. IsFound (Closed scope.now) depth at lexemes.now found) }
 {
-    let Some(inner) = expression(alloc, lexemes, parameters, at, 0, depth)? else {
+    let Some(inner) = expression(alloc, lexemes, scope, at, 0, depth)? else {
         return Ok(None);
     };
-    if !closes(lexemes, inner.end) {
+    if !stands(lexemes, inner.end, &Sign::Close) {
         return Ok(None);
     }
     Ok(Some(Found {
@@ -216,21 +228,120 @@ fn closed(
     }))
 }
 
-/// The expression that the signs are, where they are one: a whole expression over these parameters, on none of
-/// whose paths from the root to a leaf stand more than 256 expressions. There is one at most.
+/// The call that stands at a place with this name, which is no parameter, where there is one of a height of at
+/// most `depth`.
+#[cycle(reader)]
+fn call_at(
+    alloc: Global,
+    lexemes: &[Lexeme],
+    scope: &Scope<'_>,
+    name: &Text,
+    at: usize,
+    depth: u32,
+) -> Result<Option<Found>, Memory>
+    requires shallow { depth < 2 ^ 16 }
+    requires differ { NamesDiffer scope.now }
+    requires some { 0 < depth }
+    requires named { Begins (s.Name name.now) (drop at lexemes.now) }
+    requires called { Contains scope.now.parameters name.now → ⊥ }
+    ensures { IfOk result (λ found. IsFound (Operand scope.now) depth at lexemes.now found) }
+{
+    let Some(function) = scope.function(name) else {
+        return Ok(None);
+    };
+    let open = at + 1;
+    if !stands(lexemes, open, &Sign::Open) {
+        return Ok(None);
+    }
+    let Some(arguments) = arguments_at(alloc, lexemes, scope, open + 1, depth - 1)? else {
+        return Ok(None);
+    };
+    if arguments.values.len() != function.count as usize {
+        return Ok(None);
+    }
+    Ok(Some(call(function, lexemes[open].line, arguments)))
+}
+
+/// The arguments that stand at a place with the closing parenthesis behind them, where neither they nor the
+/// called name are higher than `depth`.
+#[cycle(reader)]
+fn arguments_at(
+    alloc: Global,
+    lexemes: &[Lexeme],
+    scope: &Scope<'_>,
+    at: usize,
+    depth: u32,
+) -> Result<Option<Arguments>, Memory>
+    requires shallow { depth < 2 ^ 16 }
+    requires differ { NamesDiffer scope.now }
+    ensures { IfOk result (λ found. AreFound (ArgumentsOf scope.now) depth at lexemes.now found) }
+{
+    if depth == 0 {
+        return Ok(None);
+    }
+    if stands(lexemes, at, &Sign::Close) {
+        return Ok(Some(Arguments {
+            values: List::new(alloc),
+            height: 1,
+            end: at + 1,
+        }));
+    }
+    items_at(alloc, lexemes, scope, at, depth)
+}
+
+/// The same of one argument or more.
+#[cycle(reader)]
+fn items_at(
+    alloc: Global,
+    lexemes: &[Lexeme],
+    scope: &Scope<'_>,
+    at: usize,
+    depth: u32,
+) -> Result<Option<Arguments>, Memory>
+    requires shallow { depth < 2 ^ 16 }
+    requires differ { NamesDiffer scope.now }
+    requires some { 0 < depth }
+    ensures { IfOk result (λ found. AreFound (Items scope.now) depth at lexemes.now found) }
+{
+    let mut values = List::new(alloc);
+    let mut height = 1u32;
+    let mut next = at;
+    loop {
+        let Some(argument) = expression(alloc, lexemes, scope, next, 0, depth)? else {
+            return Ok(None);
+        };
+        height = height.max(argument.height);
+        values.push(argument.value)?;
+        next = argument.end + 1;
+        if stands(lexemes, argument.end, &Sign::Close) {
+            return Ok(Some(Arguments {
+                values,
+                height,
+                end: next,
+            }));
+        }
+        if !stands(lexemes, argument.end, &Sign::Comma) {
+            return Ok(None);
+        }
+    }
+}
+
+/// The expression that the signs are, where they are one: a whole expression over the names of this scope, on none
+/// of whose paths from the root to a leaf stand more than 256 expressions. There is one at most.
 ///
-/// Time is linear in the signs, apart from the search for each name among the parameters. The stack is that of
-/// 256 nested expressions at most, however many parentheses there are.
+/// Time is linear in the signs, apart from the search for each name in the scope. The stack is that of 256 nested
+/// expressions at most, however many parentheses there are.
 pub(crate) fn read_expression(
     alloc: Global,
     lexemes: &[Lexeme],
-    parameters: &Parameters,
+    scope: &Scope<'_>,
 ) -> Result<Option<Expression>, Memory>
-    ensures found { IfOk result (λ found. IfSome found (λ x. IsExpression parameters.now x lexemes.now)) }
-    ensures few { IfOk result (λ found. IfSome found (λ x. operators x < length lexemes.now)) }
-    ensures none { IfOk result (λ found. IfNone found ((x : Tree) → IsExpression parameters.now x lexemes.now → ⊥)) }
+    requires { NamesDiffer scope.now }
+    ensures found { IfOk result (λ found. IfSome found (λ x. IsExpression scope.now x lexemes.now)) }
+    ensures few { IfOk result (λ found. IfSome found (λ x. operations x < length lexemes.now)) }
+    ensures none { IfOk result (λ found. IfNone found ((x : Tree) → IsExpression scope.now x lexemes.now → ⊥)) }
 {
-    let Some(found) = expression(alloc, lexemes, parameters, 0, 0, MOST_NESTED)? else {
+    let Some(found) = expression(alloc, lexemes, scope, 0, 0, MOST_NESTED)? else {
         return Ok(None);
     };
     if found.end != lexemes.len() {
@@ -242,7 +353,8 @@ pub(crate) fn read_expression(
 #[cfg(test)]
 mod tests {
     use super::*;
-    use po_base::{List, Text};
+    use crate::names::Parameters;
+    use crate::scope::Functions;
 
     /// The signs that these bytes stand for, a letter for a name and a digit for a constant. The line of each
     /// is its place, counted from 1.
@@ -274,21 +386,28 @@ mod tests {
             Expression::Parameter(n) => u32::wrapping_add(100, *n),
             Expression::Constant(n) => u32::wrapping_add(200, *n),
             Expression::Paren(_) => 0,
-            Expression::Binary(_, line, _, _) => *line,
+            Expression::Call(_, line, _) | Expression::Binary(_, line, _, _) => *line,
         }
     }
 
-    /// What is read of the signs over the parameters `a` and `b`: the top and the number of operators.
+    /// What is read of the signs over the parameters `a` and `b` and functions without parameters (`f`), with one
+    /// (`g` and `a`) and with two (`h`): the top and the number of operators and calls.
     fn reading(alloc: Global, bytes: &[u8]) -> Result<Option<(u32, u32)>, Memory> {
         let mut parameters = Parameters::new(alloc);
-        let _ = parameters.insert(Text::new(alloc, b"a")?)?;
-        let _ = parameters.insert(Text::new(alloc, b"b")?)?;
+        for name in [b"a", b"b"] {
+            let _ = parameters.insert(Text::new(alloc, name)?)?;
+        }
+        let mut functions = Functions::new(alloc);
+        for (name, count) in [(b"f", 0u32), (b"g", 1), (b"h", 2), (b"a", 1)] {
+            let _ = functions.insert(Text::new(alloc, name)?, count)?;
+        }
+        let scope = Scope::new(&parameters, &functions);
         let lexemes = signs(alloc, bytes)?;
         if lexemes.len() > 1 << 24 {
             return Ok(None);
         }
-        match read_expression(alloc, lexemes.as_slice(), &parameters)? {
-            Some(value) => Ok(Some((top(&value), value.operators()))),
+        match read_expression(alloc, lexemes.as_slice(), &scope)? {
+            Some(value) => Ok(Some((top(&value), value.operations()))),
             None => Ok(None),
         }
     }
@@ -342,16 +461,62 @@ mod tests {
     }
 
     #[test]
-    fn keeps_the_limit(rt: HostRuntime) {
-        let rows: [(usize, &[u8], &[u8], Option<(u32, u32)>); 5] = [
-            (255, b"(", b")", Some((0, 0))),
-            (256, b"(", b")", None),
-            (255, b"a+", b"", Some((510, 255))),
-            (256, b"a+", b"", None),
-            (1 << 20, b"(", b"", None),
+    fn reads_calls(rt: HostRuntime) {
+        let rows: [(&[u8], Option<(u32, u32)>); 30] = [
+            (b"f()", Some((2, 1))),
+            (b"g(a)", Some((2, 1))),
+            (b"h(a,b)", Some((2, 1))),
+            (b"h(1,g(b))", Some((2, 2))),
+            (b"h(f(),f())", Some((2, 3))),
+            (b"g(a+b)*2", Some((7, 3))),
+            (b"(g(a))", Some((0, 1))),
+            (b"2-g(a)", Some((2, 2))),
+            (b"f", None),
+            (b"g", None),
+            (b"g()", None),
+            (b"f(a)", None),
+            (b"g(a,b)", None),
+            (b"h(a)", None),
+            (b"h(a,b,1)", None),
+            (b"h(,)", None),
+            (b"h(a,)", None),
+            (b"h(,b)", None),
+            (b"g(a,)", None),
+            (b"f(,)", None),
+            (b"h(a b)", None),
+            (b"g(a", None),
+            (b"f(", None),
+            (b"g(f)", None),
+            (b"(g)(a)", None),
+            (b"g(a)(b)", None),
+            (b"7(a)", None),
+            (b"c(a)", None),
+            (b"a(b)", None),
+            (b"a(1)+b", None),
         ];
-        for (times, before, behind, want) in rows {
-            let bytes = nested(rt.alloc(), times, before, b"a", behind).expect(&rt, "memory");
+        for (bytes, want) in rows {
+            assert_eq!(rt; reading(rt.alloc(), bytes).expect(&rt, "memory"), want);
+        }
+    }
+
+    #[test]
+    fn keeps_the_limit(rt: HostRuntime) {
+        let rows: [(usize, &[u8], &[u8], &[u8], Option<(u32, u32)>); 12] = [
+            (255, b"(", b"a", b")", Some((0, 0))),
+            (256, b"(", b"a", b")", None),
+            (255, b"a+", b"a", b"", Some((510, 255))),
+            (256, b"a+", b"a", b"", None),
+            (255, b"g(", b"a", b")", Some((2, 255))),
+            (256, b"g(", b"a", b")", None),
+            (254, b"g(", b"f()", b")", Some((2, 255))),
+            (255, b"g(", b"f()", b")", None),
+            (255, b"h(1,", b"a", b")", Some((2, 255))),
+            (256, b"h(1,", b"a", b")", None),
+            (1 << 20, b"(", b"a", b"", None),
+            (1 << 20, b"g(", b"a", b"", None),
+        ];
+        for (times, before, within, behind, want) in rows {
+            let bytes = nested(rt.alloc(), times, before, within, behind).expect(&rt, "memory");
             assert_eq!(rt; reading(rt.alloc(), &bytes).expect(&rt, "memory"), want);
         }
     }

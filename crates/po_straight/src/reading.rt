@@ -1,8 +1,9 @@
-ghost use Rattle.std.specs.Prelude.{ℕ, ◌≡◌, ◌≤◌, ◌<◌, ◌^◌, [], length, drop, IfOk, IfSome, IfNone};
+ghost use Rattle.std.specs.Prelude.{ℕ, ◌≡◌, ◌≤◌, ◌<◌, ◌^◌, [], length, drop, map, Contains, IfOk, IfSome, IfNone};
 ghost use Rattle.std.specs.Prelude.{List as Sequence};
 ghost use Rattle.po_straight.specs.declared.lexeme.Lexeme.{Lexeme as Placed};
 ghost use Rattle.po_straight.specs.declared.definition.Definition.{Definition as Tree};
-ghost use Rattle.po_straight.specs.Definitions.{IsFile, graph_size, AreServed};
+ghost use Rattle.po_straight.specs.Distinct.{AllDiffer};
+ghost use Rattle.po_straight.specs.Definitions.{IsFile, graph_size, known_with, AreServed};
 ghost use Rattle.po_straight.specs.Outline.{Starts};
 
 use crate::body::{Body, body_at, graph_size_of};
@@ -10,7 +11,7 @@ use crate::definition::Definition;
 use crate::heading::{Heading, heading_at};
 use crate::lexeme::Lexeme;
 use crate::lexing::lexemes;
-use crate::names::Names;
+use crate::scope::{Functions, Scope};
 use po_base::{List, Memory};
 use std::alloc::Global;
 
@@ -20,37 +21,41 @@ const MOST_FUNCTIONS: usize = 65535;
 /// The most nodes times registers of all functions of a file that is served.
 const MOST_FILE_SIZE: u64 = 1 << 24;
 
-/// The definition that stands at a place, and the place behind it. Time linear in its signs but for the
-/// logarithm of the number of its parameters.
+/// The definition that stands at a place behind those of these functions, and the place behind it; its function is
+/// then among them. None where there is none, and where its name is that of one of the functions. Time linear in its
+/// signs but for the logarithm of the number of its parameters and of the functions.
 fn definition_at(
     alloc: Global,
     lexemes: &[Lexeme],
     at: usize,
+    functions: &mut Functions,
 ) -> Result<Option<(Definition, usize)>, Memory>
-    requires { length lexemes.now ≤ 2 ^ 24 }
-    ensures found { IfOk result (λ found. IfSome found (λ p. Starts p.0 (drop at lexemes.now) (drop p.1 lexemes.now))) }
+    requires short { length lexemes.now ≤ 2 ^ 24 }
+    requires few { length functions.old < 2 ^ 31 }
+    requires differ { AllDiffer (map (λ f. f.name) functions.old) }
+    ensures found { IfOk result (λ found. IfSome found (λ p. Starts functions.old p.0 (drop at lexemes.now) (drop p.1 lexemes.now))) }
+    ensures known { IfOk result (λ found. IfSome found (λ p. functions.new ≡ known_with functions.old p.0)) }
+    ensures fresh { IfOk result (λ found. IfSome found (λ p. Contains (map (λ f. f.name) functions.old) p.0.name → ⊥)) }
     ensures within { IfOk result (λ found. IfSome found (λ p. (at < p.1) × (p.1 ≤ length lexemes.now))) }
-    ensures none { IfOk result (λ found. IfNone found ((d : Tree) (left : Sequence Placed) → Starts d (drop at lexemes.now) left → ⊥)) }
+    ensures none { IfOk result (λ found. IfNone found ((d : Tree) (left : Sequence Placed) → Starts functions.old d (drop at lexemes.now) left → Contains (map (λ f. f.name) functions.old) d.name)) }
 {
     let Some(heading) = heading_at(alloc, lexemes, at)? else {
         return Ok(None);
     };
-    let Heading {
-        name,
-        parameters,
-        end,
-    } = heading;
-    let Some(body) = body_at(alloc, lexemes, end, &parameters)? else {
+    if !functions.insert(heading.name.share()?, heading.parameters.len() as u32)? {
+        return Ok(None);
+    }
+    let scope = Scope::new(&heading.parameters, functions);
+    let Some(body) = body_at(alloc, lexemes, heading.end, &scope)? else {
         return Ok(None);
     };
-    let Body { line, value, end } = body;
     let definition = Definition {
-        name,
-        parameters: parameters.into_names(),
-        line,
-        value,
+        name: heading.name,
+        parameters: heading.parameters.into_names(),
+        line: body.line,
+        value: body.value,
     };
-    Ok(Some((definition, end)))
+    Ok(Some((definition, body.end)))
 }
 
 /// How many nodes times registers the graph of a definition has.
@@ -69,11 +74,11 @@ fn definitions(alloc: Global, lexemes: &[Lexeme]) -> Result<Option<List<Definiti
     ensures none { IfOk result (λ found. IfNone found ((ds : Sequence Tree) → AreServed ds lexemes.now → ⊥)) }
 {
     let mut definitions = List::new(alloc);
-    let mut names = Names::new(alloc);
+    let mut functions = Functions::new(alloc);
     let mut size = 0u64;
     let mut at = 0usize;
     while at < lexemes.len() {
-        let Some((definition, end)) = definition_at(alloc, lexemes, at)? else {
+        let Some((definition, end)) = definition_at(alloc, lexemes, at, &mut functions)? else {
             return Ok(None);
         };
         if definitions.len() == MOST_FUNCTIONS {
@@ -81,9 +86,6 @@ fn definitions(alloc: Global, lexemes: &[Lexeme]) -> Result<Option<List<Definiti
         }
         size += size_of(&definition);
         if size > MOST_FILE_SIZE {
-            return Ok(None);
-        }
-        if !names.insert(definition.name.share()?)? {
             return Ok(None);
         }
         definitions.push(definition)?;
@@ -192,6 +194,53 @@ mod tests {
             (b"int f(int a,int a){return a;}", None),
             (b"int while(void){return 1;}", None),
             (b"int f(void){return 1;}int f(void){return 1;}", None),
+        ];
+        for (bytes, expected) in rows {
+            let found = reading(rt.alloc(), bytes);
+            assert!(rt; matches!(found, Ok(found) if found == expected));
+        }
+    }
+
+    #[test]
+    fn reads_files_with_calls(rt: HostRuntime) {
+        let rows: [(&[u8], Option<(usize, u32)>); 22] = [
+            (
+                b"int d(int a,int b){return a/b;}\nint m(void){return d(6,3);}",
+                Some((2, 2)),
+            ),
+            (b"int f(int a,int b){return f(b,a)/b;}", Some((1, 1))),
+            (b"int f(void){return f();}", Some((1, 1))),
+            (b"int f(int a){return f\n(\ta ) ;}", Some((1, 1))),
+            (
+                b"int f(void){return 1;}int g(int a){return f()+a;}int h(int a){return g(f())-h(g(a));}",
+                Some((3, 1)),
+            ),
+            (b"int f(int a){return g(a);}", None),
+            (b"int f(int a){return g(a);}int g(int a){return a;}", None),
+            (
+                b"int f(int a){return g(a);}int g(int a){return f(a);}",
+                None,
+            ),
+            (
+                b"int g(int a){return a;}int f(int g){return g;}",
+                Some((2, 1)),
+            ),
+            (b"int g(int a){return a;}int f(int g){return g(g);}", None),
+            (b"int g(int a){return a;}int f(int g){return g(1);}", None),
+            (b"int f(int f){return f(f);}", None),
+            (
+                b"int f(int f){return f;}int g(int a){return f(a);}",
+                Some((2, 1)),
+            ),
+            (b"int f(void){return f(void);}", None),
+            (b"int f(void){return f(,);}", None),
+            (b"int f(int a){return f();}", None),
+            (b"int f(int a){return f(a,);}", None),
+            (b"int f(int a){return f(a,a);}", None),
+            (b"int f(int a){return f(int a);}", None),
+            (b"int f(void){return f;}", None),
+            (b"int f(void){return 1;}int f(void){return f();}", None),
+            (b"int f(void){return return();}", None),
         ];
         for (bytes, expected) in rows {
             let found = reading(rt.alloc(), bytes);

@@ -27,26 +27,26 @@ pub returns-then-not-branch-clause-none : goal.returns-then-not-branch-clause-no
 returns-then-not-branch-clause-none c = λ ps left differ e.
     let here : Leads (s.Int ∷ (s.Name c.in-Some.name ∷ [])) (drop c.loop-parameters.at c.args.lexemes.now) (drop (c.loop-parameters.at + 2) c.args.lexemes.now) =
     rw c.in-Some.is at c.in_ok-name.ensures.found in
-    let there = (rw c.if-not-branch.true at c.in_ok-insert.ensures).1 in
+    let there = (rw c.if-not-branch.true at c.in_ok-insert.ensures.added).1 in
     parameter_twice c.loop-parameters.parameters ps c.in-Some.name (signs (drop c.args.start c.args.lexemes.now)) (signs (drop (c.loop-parameters.at + 2) c.args.lexemes.now)) left
     (no_void (drop c.args.start c.args.lexemes.now) c.loop-parameters.invariant.4)
     (c.loop-parameters.invariant.0 ∙ ap (λ v. with_commas c.loop-parameters.parameters ++ v) here) there differ e
 
 pub returns-then-not-stands-clause-found : goal.returns-then-not-stands-clause-found
 returns-then-not-stands-clause-found c =
-    let added = rw c.if-not-branch.false at c.in_ok-insert.ensures in
+    let added = rw c.if-not-branch.false at c.in_ok-insert.ensures.added in
     let here : Leads (s.Int ∷ (s.Name c.in-Some.name ∷ [])) (drop c.loop-parameters.at c.args.lexemes.now) (drop (c.loop-parameters.at + 2) c.args.lexemes.now) =
     rw c.in-Some.is at c.in_ok-name.ensures.found in
     grown_by c.loop-parameters.parameters c.insert.new.self c.in-Some.name _ _ _ added.0 c.loop-parameters.invariant.0 here
 
 pub returns-then-not-stands-clause-differ : goal.returns-then-not-stands-clause-differ
 returns-then-not-stands-clause-differ c =
-    let added = rw c.if-not-branch.false at c.in_ok-insert.ensures in
+    let added = rw c.if-not-branch.false at c.in_ok-insert.ensures.added in
     rw added.0 (differ_push c.loop-parameters.parameters c.in-Some.name c.loop-parameters.invariant.1 added.1)
 
 pub loop-parameters-preserved : goal.loop-parameters-preserved
 loop-parameters-preserved c =
-    let added = rw c.if-not-branch.false at c.in_ok-insert.ensures in
+    let added = rw c.if-not-branch.false at c.in_ok-insert.ensures.added in
     let here : Leads (s.Int ∷ (s.Name c.in-Some.name ∷ [])) (drop c.loop-parameters.at c.args.lexemes.now) (drop (c.loop-parameters.at + 2) c.args.lexemes.now) =
     rw c.in-Some.is at c.in_ok-name.ensures.found in
     let comma = begins s.Comma c.args.lexemes.now (c.loop-parameters.at + 2) (c.if-not-stands.ensures.0 refl) in

@@ -8,7 +8,7 @@ returns-in_default-clause-none c = none_expression (rw c.in_default.is at c.in_o
 pub returns-then-found-lexemes-clause-none : goal.returns-then-found-lexemes-clause-none
 returns-then-found-lexemes-clause-none c =
     let f = rw c.in-Some.is at c.in_ok-found.ensures in
-    none_whole c.in-Some.found.end c.args.lexemes.now f.0 f.4 c.if-found-lexemes.true
+    none_whole c.in-Some.found.end c.args.lexemes.now c.requires f.0 f.4 c.if-found-lexemes.true
 
 pub returns-clause-found : goal.returns-clause-found
 returns-clause-found c =
