@@ -5,7 +5,7 @@ use std::alloc::Global;
 use std::process::Abort;
 
 /// Room that is ample for each text here.
-const ROOM: usize = 65_536;
+const ROOM: usize = 1_048_576;
 
 #[derive(Clone, Copy)]
 /// The outside world of a run: one file, the most bytes of a write, and the calls that fail.
@@ -62,7 +62,7 @@ fn expect_report(rt: &impl Abort, alloc: Global, bytes: &[u8], status: Status, t
 
 #[test]
 fn an_operator_is_closed_where_its_range_shows_it(rt: HostRuntime) {
-    let rows: [(&[u8], Status, &[u8]); 10] = [
+    let rows: [(&[u8], Status, &[u8]); 8] = [
         (
             b"int f(void){return 0;}",
             Status::Clean,
@@ -79,9 +79,9 @@ fn an_operator_is_closed_where_its_range_shows_it(rt: HostRuntime) {
             b"a.c:1 f 0.0 nonzero(0) open\na.c:1 f 0.1 no_over(div,1,0) closed range\ntotal 2 closed 1 delegated 0 open 1\n",
         ),
         (
-            b"int f(int a){return a+1;}",
+            b"int f(void){return 1/0+1;}",
             Status::Open,
-            b"a.c:1 f 0.0 no_over(add,a,1) open\ntotal 1 closed 0 delegated 0 open 1\n",
+            b"a.c:1 f 0.0 nonzero(0) open\na.c:1 f 0.1 no_over(div,1,0) closed range\na.c:1 f 1.0 no_over(add,%0,1) open\ntotal 3 closed 1 delegated 0 open 2\n",
         ),
         (
             b"int f(void){return 2147483647-0;}",
@@ -97,16 +97,6 @@ fn an_operator_is_closed_where_its_range_shows_it(rt: HostRuntime) {
             b"int f(int a){return a*1;}",
             Status::Clean,
             b"a.c:1 f 0.0 no_over(mul,a,1) closed range\ntotal 1 closed 1 delegated 0 open 0\n",
-        ),
-        (
-            b"int f(int a,int b){return a/b;}",
-            Status::Open,
-            b"a.c:1 f 0.0 nonzero(b) open\na.c:1 f 0.1 no_over(div,a,b) open\ntotal 2 closed 0 delegated 0 open 2\n",
-        ),
-        (
-            b"int f(int a){return 5/a;}",
-            Status::Open,
-            b"a.c:1 f 0.0 nonzero(a) open\na.c:1 f 0.1 no_over(div,5,a) closed range\ntotal 2 closed 1 delegated 0 open 1\n",
         ),
         (b"", Status::Clean, b"total 0 closed 0 delegated 0 open 0\n"),
     ];
@@ -124,15 +114,204 @@ fn obligations_stand_by_function_and_node(rt: HostRuntime) {
         rt.alloc(),
         b"int f(int a,int b)\n{\treturn (a-1)*b\n+ 2 % (3-3) ;\n}\nint g ( void ) { return ( 4 ) ; } int h(int c){return c-c-c;}",
         Status::Open,
-        b"a.c:2 f 0.0 no_over(sub,a,1) open\n\
-          a.c:2 f 1.0 no_over(mul,%0,b) open\n\
+        b"a.c:2 f 0.0 no_over(sub,a,1) delegated no_over(sub,$0,1)\n\
+          a.c:2 f 1.0 no_over(mul,%0,b) delegated no_over(mul,-2147483648..2147483647,$1)\n\
           a.c:3 f 2.0 no_over(sub,3,3) closed range\n\
           a.c:3 f 3.0 nonzero(%2) open\n\
           a.c:3 f 3.1 no_over(rem,2,%2) closed range\n\
           a.c:3 f 4.0 no_over(add,%1,%3) open\n\
-          a.c:5 h 0.0 no_over(sub,c,c) open\n\
-          a.c:5 h 1.0 no_over(sub,%0,c) open\n\
-          total 8 closed 2 delegated 0 open 6\n",
+          a.c:5 h 0.0 no_over(sub,c,c) delegated no_over(sub,$0,$0)\n\
+          a.c:5 h 1.0 no_over(sub,%0,c) delegated no_over(sub,-2147483648..2147483647,$0)\n\
+          assume a.c f no_over(sub,$0,1)\n\
+          assume a.c f no_over(mul,-2147483648..2147483647,$1)\n\
+          assume a.c h no_over(sub,-2147483648..2147483647,$0)\n\
+          assume a.c h no_over(sub,$0,$0)\n\
+          total 8 closed 2 delegated 4 open 2\n",
+    );
+}
+
+#[test]
+fn what_a_function_asks_of_its_arguments_is_delegated(rt: HostRuntime) {
+    let rows: [(&[u8], Status, &[u8]); 4] = [
+        (
+            b"int d(int a,int b){return a/b;}",
+            Status::Clean,
+            b"a.c:1 d 0.0 nonzero(b) delegated nonzero($1)\n\
+              a.c:1 d 0.1 no_over(div,a,b) delegated no_over(div,$0,$1)\n\
+              assume a.c d nonzero($1)\n\
+              assume a.c d no_over(div,$0,$1)\n\
+              total 2 closed 0 delegated 2 open 0\n",
+        ),
+        (
+            b"int f(int a){return a+1;}",
+            Status::Clean,
+            b"a.c:1 f 0.0 no_over(add,a,1) delegated no_over(add,$0,1)\n\
+              assume a.c f no_over(add,$0,1)\n\
+              total 1 closed 0 delegated 1 open 0\n",
+        ),
+        (
+            b"int f(int a){return 5/a;}",
+            Status::Clean,
+            b"a.c:1 f 0.0 nonzero(a) delegated nonzero($0)\n\
+              a.c:1 f 0.1 no_over(div,5,a) closed range\n\
+              assume a.c f nonzero($0)\n\
+              total 2 closed 1 delegated 1 open 0\n",
+        ),
+        (
+            b"int f(int a,int b){return (a%7)/(b%7);}",
+            Status::Open,
+            b"a.c:1 f 0.0 nonzero(7) closed range\n\
+              a.c:1 f 0.1 no_over(rem,a,7) closed range\n\
+              a.c:1 f 1.0 nonzero(7) closed range\n\
+              a.c:1 f 1.1 no_over(rem,b,7) closed range\n\
+              a.c:1 f 2.0 nonzero(%1) open\n\
+              a.c:1 f 2.1 no_over(div,%0,%1) open\n\
+              total 6 closed 4 delegated 0 open 2\n",
+        ),
+    ];
+    for (bytes, status, text) in rows {
+        expect_report(&rt, rt.alloc(), bytes, status, text);
+    }
+}
+
+#[test]
+fn a_call_supports_what_the_called_function_assumes(rt: HostRuntime) {
+    let rows: [(&[u8], Status, &[u8]); 3] = [
+        (
+            b"int d(int a,int b){return a/b;}int m(void){return d(6,3);}",
+            Status::Clean,
+            b"a.c:1 d 0.0 nonzero(b) delegated nonzero($1)\n\
+              a.c:1 d 0.1 no_over(div,a,b) delegated no_over(div,$0,$1)\n\
+              a.c:1 m 0.0 nonzero(3) closed range\n\
+              a.c:1 m 0.1 no_over(div,6,3) closed range\n\
+              assume a.c d nonzero($1)\n\
+              assume a.c d no_over(div,$0,$1)\n\
+              total 4 closed 2 delegated 2 open 0\n",
+        ),
+        (
+            b"int d(int a,int b){return a/b;}int m(void){return d(6,0);}",
+            Status::Open,
+            b"a.c:1 d 0.0 nonzero(b) delegated nonzero($1)\n\
+              a.c:1 d 0.1 no_over(div,a,b) delegated no_over(div,$0,$1)\n\
+              a.c:1 m 0.0 nonzero(0) open\n\
+              a.c:1 m 0.1 no_over(div,6,0) closed range\n\
+              assume a.c d nonzero($1)\n\
+              assume a.c d no_over(div,$0,$1)\n\
+              total 4 closed 1 delegated 2 open 1\n",
+        ),
+        // A call's line is that of its bracket, its arguments come before it, and its own obligations count on.
+        (
+            b"int d(int a,int b){return a/b;}\nint m(int x){return d\n(x-1,\nx)-d(1,x);}",
+            Status::Open,
+            b"a.c:1 d 0.0 nonzero(b) delegated nonzero($1)\n\
+              a.c:1 d 0.1 no_over(div,a,b) delegated no_over(div,$0,$1)\n\
+              a.c:3 m 0.0 no_over(sub,x,1) delegated no_over(sub,$0,1)\n\
+              a.c:3 m 1.0 nonzero(x) delegated nonzero($0)\n\
+              a.c:3 m 1.1 no_over(div,%0,x) delegated no_over(div,-2147483648..2147483647,$0)\n\
+              a.c:4 m 2.0 nonzero(x) delegated nonzero($0)\n\
+              a.c:4 m 2.1 no_over(div,1,x) closed range\n\
+              a.c:4 m 3.0 no_over(sub,%1,%2) open\n\
+              assume a.c d nonzero($1)\n\
+              assume a.c d no_over(div,$0,$1)\n\
+              assume a.c m nonzero($0)\n\
+              assume a.c m no_over(sub,$0,1)\n\
+              assume a.c m no_over(div,-2147483648..2147483647,$0)\n\
+              total 8 closed 1 delegated 6 open 1\n",
+        ),
+    ];
+    for (bytes, status, text) in rows {
+        expect_report(&rt, rt.alloc(), bytes, status, text);
+    }
+}
+
+#[test]
+fn a_function_that_calls_itself_with_exchanged_arguments_assumes_both_ways(rt: HostRuntime) {
+    expect_report(
+        &rt,
+        rt.alloc(),
+        b"int f(int a,int b){return f(b,a)/b;}",
+        Status::Clean,
+        b"a.c:1 f 0.0 nonzero(b) delegated nonzero($1)\n\
+          a.c:1 f 0.1 nonzero(a) delegated nonzero($0)\n\
+          a.c:1 f 0.2 no_over(div,-2147483648..2147483647,b) delegated no_over(div,-2147483648..2147483647,$1)\n\
+          a.c:1 f 0.3 no_over(div,-2147483648..2147483647,a) delegated no_over(div,-2147483648..2147483647,$0)\n\
+          a.c:1 f 1.0 nonzero(b) delegated nonzero($1)\n\
+          a.c:1 f 1.1 no_over(div,%0,b) delegated no_over(div,-2147483648..2147483647,$1)\n\
+          assume a.c f nonzero($0)\n\
+          assume a.c f nonzero($1)\n\
+          assume a.c f no_over(div,-2147483648..2147483647,$0)\n\
+          assume a.c f no_over(div,-2147483648..2147483647,$1)\n\
+          total 6 closed 0 delegated 6 open 0\n",
+    );
+}
+
+/// Appends a line of text.
+fn append(rt: &impl Abort, text: &mut Vec<u8>, line: Result<String, AllocError>) {
+    let line = line.expect(rt, "memory");
+    text.extend_from_slice(line.as_bytes()).expect(rt, "memory");
+}
+
+// Each function hands its arguments on to the one before it, so what the first asks is asked of all.
+#[test]
+fn a_chain_of_a_thousand_functions_hands_its_assumptions_on(rt: HostRuntime) {
+    let alloc = rt.alloc();
+    let first: &[u8] = b"int f0(int a,int b){return a/b;}";
+    let mut file = Vec::from_slice(alloc, first).expect(&rt, "memory");
+    let first: &[u8] = b"a.c:1 f0 0.0 nonzero(b) delegated nonzero($1)\na.c:1 f0 0.1 no_over(div,a,b) delegated no_over(div,$0,$1)\n";
+    let mut text = Vec::from_slice(alloc, first).expect(&rt, "memory");
+    for k in 1..1000u32 {
+        append(&rt, &mut file, format!(in alloc; "int f{k}(int a,int b){{return f{}(a,b);}}", k - 1));
+        append(&rt, &mut text, format!(in alloc; "a.c:1 f{k} 0.0 nonzero(b) delegated nonzero($1)\n"));
+        append(&rt, &mut text, format!(in alloc; "a.c:1 f{k} 0.1 no_over(div,a,b) delegated no_over(div,$0,$1)\n"));
+    }
+    for k in 0..1000u32 {
+        append(&rt, &mut text, format!(in alloc; "assume a.c f{k} nonzero($1)\nassume a.c f{k} no_over(div,$0,$1)\n"));
+    }
+    append(&rt, &mut text, format!(in alloc; "total 2000 closed 0 delegated 2000 open 0\n"));
+    expect_report(&rt, alloc, &file, Status::Clean, &text);
+}
+
+#[test]
+fn a_function_that_is_called_a_thousand_times_is_supported_at_each_call(rt: HostRuntime) {
+    let alloc = rt.alloc();
+    let first: &[u8] = b"int d(int a,int b){return a/b;}";
+    let mut file = Vec::from_slice(alloc, first).expect(&rt, "memory");
+    let first: &[u8] = b"a.c:1 d 0.0 nonzero(b) delegated nonzero($1)\na.c:1 d 0.1 no_over(div,a,b) delegated no_over(div,$0,$1)\n";
+    let mut text = Vec::from_slice(alloc, first).expect(&rt, "memory");
+    for k in 1..=1000u32 {
+        append(&rt, &mut file, format!(in alloc; "int m{k}(void){{return d(6,{k});}}"));
+        append(&rt, &mut text, format!(in alloc; "a.c:1 m{k} 0.0 nonzero({k}) closed range\n"));
+        append(&rt, &mut text, format!(in alloc; "a.c:1 m{k} 0.1 no_over(div,6,{k}) closed range\n"));
+    }
+    append(&rt, &mut text, format!(in alloc; "assume a.c d nonzero($1)\nassume a.c d no_over(div,$0,$1)\ntotal 2002 closed 2000 delegated 2 open 0\n"));
+    expect_report(&rt, alloc, &file, Status::Clean, &text);
+}
+
+#[test]
+fn a_call_names_an_earlier_function_or_its_own_with_its_arguments(rt: HostRuntime) {
+    let refused: [&[u8]; 12] = [
+        b"int g(int a){return f(a);}int f(int a){return a;}",
+        b"int f(int a){return a;}int g(int a){return f();}",
+        b"int f(int a){return a;}int g(int a){return f(a,a);}",
+        b"int f(int a){return a;}int g(int a){return f(a,);}",
+        b"int f(int a){return a;}int g(int a){return f(,a);}",
+        b"int f(int a){return a;}int g(int a){return f(a;}",
+        b"int f(int a){return a;}int g(int a){return f;}",
+        b"int f(int a){return a;}int g(int a){return (f)(a);}",
+        b"int f(int a){return a;}int g(int a){return f(a)(a);}",
+        b"int f(int a){return a;}int g(int f){return f(f);}",
+        b"int f(void){return 1;}int g(void){return f(void);}",
+        b"int f(int a){return a(1);}",
+    ];
+    for bytes in refused {
+        expect_report(&rt, rt.alloc(), bytes, Status::Refused, b"refused not-yet a.c\n");
+    }
+    expect_report(
+        &rt,
+        rt.alloc(),
+        b"int f ( void ) { return 1 ; } int g(int f){return f;} int h(void){return f ( )*g(f());}",
+        Status::Open,
+        b"a.c:1 h 3.0 no_over(mul,%0,%2) open\ntotal 1 closed 0 delegated 0 open 1\n",
     );
 }
 

@@ -2,9 +2,7 @@
 use Rattle.std.proofs.Common.{◌≡◌, ℕ, suc, zero, ◌+◌, ◌<◌, List, [], ◌∷◌, ◌++◌, length, get_or, take, refl, ap, sym, ◌∙◌, append_assoc, arith, subst}
 use Rattle.std.proofs.lemmas.List.{append-nil, take_more}
 use Rattle.std.specs.List.{AllZip}
-use Rattle.po_app.specs.declared.report.Ruling.{Ruling}
-use Rattle.po_app.specs.Obligations.{each_from, Asked, IsRuling}
-use Rattle.po_app.specs.Rulings.{Rules}
+use Rattle.po_app.specs.Obligations.{each_from}
 
 each_from-take-from : {X Y : Type 0} (f : ℕ → X → List Y) (n : ℕ) (xs : List X) (i : ℕ) (d : X) → i < length xs →
     each_from f n (take (suc i) xs) ≡ each_from f n (take i xs) ++ f (n + i) (get_or xs i d)
@@ -23,36 +21,22 @@ each_from-take f xs i d h =
     let z : 0 + i ≡ i = omega arith in
     rw e (subst (λ k. each_from f 0 (take (suc i) xs) ≡ each_from f 0 (take i xs) ++ f k (get_or xs i d)) z (each_from-take-from f 0 xs i d h))
 
+-- the same with the item that was read
+pub each_from-more : {X Y : Type 0} (f : ℕ → X → List Y) (xs : List X) (i : ℕ) (x : X) → i < length xs → x ≡ get_or xs i x →
+    each_from f 0 (take (i + 1) xs) ≡ each_from f 0 (take i xs) ++ f i x
+each_from-more f xs i x h is = each_from-take f xs i x h ∙ ap (λ y. each_from f 0 (take i xs) ++ f i y) (sym is)
+
+-- what is made of one more item is appended
+pub each_from-step : {X Y : Type 0} (f : ℕ → X → List Y) (xs : List X) (i j : ℕ) (x : X) (before after : List Y) → i < length xs → x ≡ get_or xs i x → j ≡ i →
+    before ≡ each_from f 0 (take i xs) → after ≡ before ++ f j x → after ≡ each_from f 0 (take (i + 1) xs)
+each_from-step f xs i j x before after below is same so_far appended =
+    appended ∙ ap (λ z. z ++ f j x) so_far ∙ ap (λ k. each_from f 0 (take i xs) ++ f k x) same ∙ sym (each_from-more f xs i x below is)
+
 pub AllZip-append : {A B : Type 0} (R : A → B → Type 0) (ks cs : List A) (bs ds : List B) → AllZip R ks bs → AllZip R cs ds → AllZip R (ks ++ cs) (bs ++ ds)
 AllZip-append R [] cs [] ds h k = k
 AllZip-append R [] cs (b ∷ bs) ds h k = absurd h
 AllZip-append R (a ∷ ks) cs [] ds h k = absurd h
 AllZip-append R (a ∷ ks) cs (b ∷ bs) ds h k = (h.0, AllZip-append R ks cs bs ds h.1 k)
-
-pub rules-none : (xs : List Ruling) → Rules [] xs xs
-rules-none xs = ([], sym (append-nil xs), tt)
-
-pub rules-one : (a : Asked) (x : Ruling) (xs : List Ruling) → IsRuling a x → Rules (a ∷ []) xs (xs ++ x ∷ [])
-rules-one a x xs h = (x ∷ [], refl, (h, tt))
-
-pub rules-append : (qs bs : List Asked) (xs ys zs : List Ruling) → Rules qs xs ys → Rules bs ys zs → Rules (qs ++ bs) xs zs
-rules-append qs bs xs ys zs h k =
-    (h.0 ++ k.0, k.1 ∙ ap (λ l. l ++ k.0) h.1 ∙ append_assoc xs h.0 k.0, AllZip-append IsRuling qs bs h.0 k.0 h.2 k.2)
-
--- rulings on one more item
-pub rules-step : {X : Type 0} (f : ℕ → X → List Asked) (xs : List X) (i : ℕ) (x : X) (us vs ws : List Ruling) → i < length xs → x ≡ get_or xs i x →
-    Rules (each_from f 0 (take i xs)) us vs → Rules (f i x) vs ws → Rules (each_from f 0 (take (i + 1) xs)) us ws
-rules-step f xs i x us vs ws h is before now =
-    let here : Rules (f i (get_or xs i x)) vs ws = subst (λ y. Rules (f i y) vs ws) is now in
-    subst (λ l. Rules l us ws) (sym (each_from-take f xs i x h)) (rules-append _ _ us vs ws before here)
-
--- one more ruling is pushed, on the next item
-pub rules-push : {X : Type 0} (f : ℕ → X → Asked) (xs : List X) (i : ℕ) (d : X) (x : Ruling) (us vs ws : List Ruling) → i < length xs →
-    Rules (each_from (λ j q. f j q ∷ []) 0 (take i xs)) us vs → ws ≡ vs ++ x ∷ [] → IsRuling (f i (get_or xs i d)) x →
-    Rules (each_from (λ j q. f j q ∷ []) 0 (take (i + 1) xs)) us ws
-rules-push f xs i d x us vs ws h before pushed now =
-    subst (λ l. Rules (each_from (λ j q. f j q ∷ []) 0 (take (i + 1) xs)) us l) (sym pushed)
-    (subst (λ l. Rules l us (vs ++ x ∷ [])) (sym (each_from-take (λ j q. f j q ∷ []) xs i d h)) (rules-append _ _ us vs _ before (rules-one _ x vs now)))
 
 pub AllZip-length : {A B : Type 0} (R : A → B → Type 0) (ks : List A) (bs : List B) → AllZip R ks bs → length ks ≡ length bs
 AllZip-length R [] [] h = refl

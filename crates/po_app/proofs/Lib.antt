@@ -1,13 +1,16 @@
-mod Completing
-mod Corners
-mod Each
+mod Heights
+mod Operations
 mod Lowers
-mod Never
+mod Each
+mod Numbering
 mod One
 mod Outcomes
+mod Completing
 mod Pairs
-mod Reached
-mod Sizes
+pub mod Soundness
+mod Corners
+mod Tells
+mod Products
 mod Small
-mod Soundness
-mod Writing
+mod Gains
+mod Files

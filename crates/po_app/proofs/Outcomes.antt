@@ -8,7 +8,8 @@ use Rattle.po_io.specs.Reading.{IsReadOf}
 use Rattle.po_io.specs.Writing.{Adds}
 use Rattle.po_straight.specs.declared.lexeme.Lexeme.{Lexeme}
 use Rattle.po_straight.specs.declared.definition.Definition.{Definition}
-use Rattle.po_straight.specs.Definitions.{IsFile, AreDefinitions, none, more, operators}
+use Rattle.po_straight.specs.Definitions.{IsFile, AreDefinitions, none, more, operations, known_with}
+use Rattle.po_straight.specs.Scopes.{Signature}
 use Rattle.po_app.specs.declared.status.Status.{Status}
 use Rattle.po_app.specs.declared.status.Status.TheVariants.{Clean, Open, Usage, Refused, ReadFault, WriteFault, NoMemory}
 use Rattle.po_app.specs.Lowered.{IsCounted}
@@ -19,9 +20,9 @@ counted : (ops params : ℕ) → (ops + 1) * (params + ops) ≤ 2 ^ 22 → param
 counted ops params h = omega arith
 
 -- the nodes and registers of a served file are counted in 32 bits
-pub all_counted : (ds : List Definition) (xs : List Lexeme) → AreDefinitions ds xs → All IsCounted ds
-all_counted ds xs none = All-nil _
-all_counted ds xs (more e es ys zs h k) = All-cons IsCounted e es (counted (operators e.value) (length e.parameters) h.small) (all_counted es zs k)
+pub all_counted : (earlier : List Signature) (ds : List Definition) (xs : List Lexeme) → AreDefinitions earlier ds xs → All IsCounted ds
+all_counted earlier ds xs (none sigs) = All-nil _
+all_counted earlier ds xs (more sigs e es ys zs h k) = All-cons IsCounted e es (counted (operations e.value) (length e.parameters) h.small) (all_counted (known_with sigs e) es zs k)
 
 pub decides_not_served : (name bytes text : List ℕ) → length bytes ≤ 2 ^ 24 → ((ds : List Definition) → IsFile ds bytes → ⊥) → text ≡ named_text (codes "refused not-yet ") name → Decides name bytes Refused text
 decides_not_served name bytes text short never is = subst (λ t. Decides name bytes Refused t) (sym is) (not_served short never)

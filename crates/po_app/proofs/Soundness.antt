@@ -3,12 +3,23 @@ mod Members
 mod Numbers
 mod Registers
 mod Places
+mod Results
 mod Served
 mod Files
 mod Graphs
-mod Results
-mod Decided
+mod Entries
+mod Passing
+mod Supports
+pub mod Frames
+mod Checks
+mod Listed
+pub mod Meeting
+pub mod Least
 pub mod Along
-pub mod Progress
 pub mod Starting
+mod Decided
+pub mod Progress
+mod Same
 mod Sample
+mod SampleRuns
+mod SampleFile

@@ -1,25 +1,36 @@
 -- The meaning of a project: what a lowered function does, step by step (C99 5.1.2.3), and where it violates an obligation.
-use Rattle.std.specs.Prelude.{ℕ, zero, suc, ◌+◌, ◌^◌, ◌≡◌, ◌≢◌, ℤ, pos, ◌+ℤ◌, ◌-ℤ◌, ◌*ℤ◌, ◌⊎◌, cond, List, [], ◌∷◌, ◌++◌, All, slice_get, slice_set, slice_index_or, Option, Some, None}
+use Rattle.std.specs.Prelude.{ℕ, zero, suc, ◌+◌, ◌-◌, ◌^◌, ◌≡◌, ◌≢◌, ◌==◌, ℤ, pos, ◌+ℤ◌, ◌-ℤ◌, ◌*ℤ◌, ◌⊎◌, cond, ◌&&◌, List, [], ◌∷◌, ◌++◌, All, map, replicate, length, slice_get, slice_set, slice_index_or, Option, Some, None}
+use Rattle.std.specs.List.{AllZip, flat_map}
 use Rattle.std.specs.Int.{int_rem_euclid}
 use Rattle.std.specs.Int.RustNames.{int_div, int_rem}
+use Rattle.po_base.specs.declared.numbers.RegNo.{RegNo}
 use Rattle.po_base.specs.declared.operators.Op.{Op}
 use Rattle.po_base.specs.declared.operators.Op.TheVariants as op
 use Rattle.po_base.specs.declared.operand.Opnd.{Opnd}
 use Rattle.po_base.specs.declared.operand.Opnd.TheVariants.{Reg, Num}
 use Rattle.po_arith.specs.declared.int_type.IntType.{IntType}
+use Rattle.po_ir.specs.declared.instr.Callee.{Callee}
+use Rattle.po_ir.specs.declared.instr.Callee.TheVariants.{Fun}
 use Rattle.po_ir.specs.declared.instr.Ty.TheVariants.{Int, Ptr}
 use Rattle.po_ir.specs.declared.instr.Instr.{Instr}
-use Rattle.po_ir.specs.declared.instr.Instr.TheVariants.{Bin, Return}
+use Rattle.po_ir.specs.declared.instr.Instr.TheVariants.{Bin, Call, Return}
 use Rattle.po_ir.specs.declared.graph.Node.{Node}
+use Rattle.po_ir.specs.declared.project.Function.{Function}
 use Rattle.po_ir.specs.declared.project.Project.{Project}
+use Rattle.po_core.specs.declared.obl.Cause.{Cause}
+use Rattle.po_core.specs.declared.obl.Cause.TheVariants.{Primary, Support}
+use Rattle.po_core.specs.declared.obl.Obl.{Obl}
+use Rattle.po_core.specs.declared.obl.Verdict.{Verdict}
+use Rattle.po_core.specs.declared.report.Report.{Report}
 use Rattle.po_pred.specs.declared.pred.Atom.{Atom}
 use Rattle.po_pred.specs.declared.pred.Atom.TheVariants as atom
 use Rattle.po_pred.specs.declared.pred.Place.{Place}
 use Rattle.po_pred.specs.declared.pred.Pred.{Pred}
 use Rattle.po_pred.specs.declared.pred.Pred.TheVariants.{Nonzero, NoOver}
-use Rattle.po_app.specs.declared.report.Obl.{Obl}
+use Rattle.po_app.specs.declared.rule.Rule.{Rule}
 use Rattle.po_app.specs.Predicates.{Fits, IsMoved}
-use Rattle.po_app.specs.Obligations.{Asked, node_obligations, node_in}
+use Rattle.po_app.specs.Obligations.{Asked, node_obligations}
+use Rattle.po_app.specs.Verdicts.{node_in, predicate_of}
 
 -- the value of a register: a whole number
 pub data Value : Type 0 where
@@ -81,19 +92,36 @@ abbrev pub asked_at : Frame → Option Node → List Asked
 asked_at frame None = []
 asked_at frame (Some node) = node_obligations frame.fun frame.node node
 
--- the obligations at the node where the running frame stands, in the order in which they are checked
-abbrev pub asked : Project → State → List Asked
-asked p s = asked_at s.top (node_under p s.top)
+abbrev pub with_predicate : Obl Pred → Option Pred → List Asked
+with_predicate o None = []
+with_predicate o (Some q) = (o, q) ∷ []
+
+-- an obligation by which a call supports what the called function assumes
+abbrev pub support_by : Project → Obl Pred → Cause Pred → List Asked
+support_by p o (Primary i) = []
+support_by p o (Support q) = with_predicate o (predicate_of p o)
+
+abbrev pub support_at : Project → ℕ → ℕ → (Obl Pred × Verdict Pred Rule) → List Asked
+support_at p f n line = cond (line.0.fun.0 == f && line.0.node.0 == n) (support_by p line.0 line.0.cause) []
+
+-- the supporting obligations that the report lists at a node, in its order
+abbrev pub supports : Project → Report Pred Rule → ℕ → ℕ → List Asked
+supports p r f n = flat_map (support_at p f n) r.lines
+
+-- the obligations at the node where the running frame stands, in the order in which they are checked: those of its
+-- operation, and then those that the report lists there for what a called function assumes
+abbrev pub asked : Project → Report Pred Rule → State → List Asked
+asked p r s = asked_at s.top (node_under p s.top) ++ supports p r s.top.fun s.top.node
 
 abbrev pub AllHold : Frame → List Asked → Type 0
 AllHold frame list = All (λ (a : Asked). Holds frame a.1) list
 
 -- o is the first obligation in s that doesn't hold: the run ends here
-pub record Violates (p : Project) (s : State) (o : Obl) : Type 0 where
+pub record Violates (p : Project) (r : Report Pred Rule) (s : State) (o : Obl Pred) : Type 0 where
   pub before : List Asked
   pub pred : Pred
   pub after : List Asked
-  pub checked : asked p s ≡ before ++ ((o, pred) ∷ after)
+  pub checked : asked p r s ≡ before ++ ((o, pred) ∷ after)
   pub held : AllHold s.top before
   pub fails : Holds s.top pred → ⊥
 
@@ -125,33 +153,77 @@ pub record Computes (to : ℕ) (op : Op) (t : IntType) (a b : Opnd) (fr u : Fram
   pub exact_is : IsResult op left right exact
   pub next : u ≡ put to (number (kept t exact)) fr
 
--- the next states of an instruction; at a return none follows, since no frame waits as long as there are no calls
-abbrev pub StepOf : Instr → State → State → Type 0
-StepOf (Bin to op (Int t) a b) s u = Computes to.0 op t a b s.top u.top × (u.rest ≡ s.rest)
-StepOf (Bin to op Ptr a b) s u = ⊥
-StepOf (Return value) s u = ⊥
+-- the arguments stand in the first registers, and the others have no value (6.2.4p5, 6.9.1p9)
+abbrev pub start_registers : Function → List Value → List (Option Value)
+start_registers f args = map Some args ++ replicate (length f.graph.regs - f.graph.params) None
+
+-- a frame at the first node of a function, with these arguments
+abbrev pub start_frame : ℕ → Function → List Value → Frame
+start_frame f function args = record { fun = f; node = 0; regs = start_registers function args; args = args }
+
+-- a call of the function f: it runs on the values of the arguments, and its caller waits (6.5.2.2p4, p10)
+pub record Enters (p : Project) (f : ℕ) (args : List Opnd) (s u : State) : Type 0 where
+  pub function : Function
+  pub is_there : slice_get p.functions f ≡ Some function
+  pub values : List Value
+  pub passed : AllZip (λ a v. operand_value s.top a ≡ Some v) args values
+  pub top : u.top ≡ start_frame f function values
+  pub rest : u.rest ≡ s.top ∷ s.rest
+
+-- what a frame returns, where it returns a value
+abbrev pub Gives : Frame → Option Opnd → Option Value → Type 0
+Gives frame None v = v ≡ None
+Gives frame (Some a) v = (x : Value) × (operand_value frame a ≡ Some x) × (v ≡ Some x)
+
+-- a caller goes to its next node, and its register gets what was returned
+abbrev pub receive : Option RegNo → Option Value → Frame → Frame
+receive (Some to) (Some v) frame = put to.0 v frame
+receive _ _ frame = record { fun = frame.fun; node = frame.node + 1; regs = frame.regs; args = frame.args }
+
+-- a return to the frame that waits for this one (6.8.6.4p3)
+pub record Returns (p : Project) (value : Option Opnd) (s u : State) : Type 0 where
+  pub caller : Frame
+  pub below : List Frame
+  pub waiting : s.rest ≡ caller ∷ below
+  pub node : Node
+  pub stands : node_under p caller ≡ Some node
+  pub to : Option RegNo
+  pub callee : Callee
+  pub args : List Opnd
+  pub calls : node.instr ≡ Call to callee args
+  pub result : Option Value
+  pub is_result : Gives s.top value result
+  pub top : u.top ≡ receive to result caller
+  pub rest : u.rest ≡ below
+
+-- the next states of an instruction
+abbrev pub StepOf : Project → Instr → State → State → Type 0
+StepOf p (Bin to op (Int t) a b) s u = Computes to.0 op t a b s.top u.top × (u.rest ≡ s.rest)
+StepOf p (Bin to op Ptr a b) s u = ⊥
+StepOf p (Call to (Fun f) args) s u = Enters p f.0 args s u
+StepOf p (Return value) s u = Returns p value s u
 
 -- one step: all obligations at the node hold, and the instruction goes on
-pub record Step (p : Project) (s u : State) : Type 0 where
+pub record Step (p : Project) (r : Report Pred Rule) (s u : State) : Type 0 where
   pub node : Node
   pub here : node_under p s.top ≡ Some node
-  pub held : AllHold s.top (asked p s)
-  pub goes : StepOf node.instr s u
+  pub held : AllHold s.top (asked p r s)
+  pub goes : StepOf p node.instr s u
 
 -- a run of n steps
-abbrev pub Run : Project → ℕ → State → State → Type 0
-Run p zero s u = s ≡ u
-Run p (suc n) s u = (v : State) × Step p s v × Run p n v u
+abbrev pub Run : Project → Report Pred Rule → ℕ → State → State → Type 0
+Run p r zero s u = s ≡ u
+Run p r (suc n) s u = (v : State) × Step p r s v × Run p r n v u
 
 -- the run ends here without a violation: all obligations hold, and a function returns for which no frame waits (6.8.6.4)
-pub record Ends (p : Project) (s : State) : Type 0 where
+pub record Ends (p : Project) (r : Report Pred Rule) (s : State) : Type 0 where
   pub node : Node
   pub here : node_under p s.top ≡ Some node
   pub value : Option Opnd
   pub returns : node.instr ≡ Return value
-  pub held : AllHold s.top (asked p s)
+  pub held : AllHold s.top (asked p r s)
   pub alone : s.rest ≡ []
 
 -- the run isn't stuck here: an obligation is violated, a next state follows, or the run ends
-abbrev pub GoesOn : Project → State → Type 0
-GoesOn p s = ((o : Obl) × Violates p s o) ⊎ ((u : State) × Step p s u) ⊎ Ends p s
+abbrev pub GoesOn : Project → Report Pred Rule → State → Type 0
+GoesOn p r s = ((o : Obl Pred) × Violates p r s o) ⊎ ((u : State) × Step p r s u) ⊎ Ends p r s

@@ -1,14 +1,15 @@
--- The obligations of a project, and its report.
-use Rattle.std.specs.Prelude.{ℕ, ◌+◌, ◌≡◌, ◌++◌, List, [], ◌∷◌, Option, Some, None, slice_get, pos, cond}
-use Rattle.std.specs.List.{AllZip}
+-- What the operations of a project ask for.
+use Rattle.std.specs.Prelude.{ℕ, ◌+◌, ◌++◌, List, [], ◌∷◌, Some, None, pos, cond}
 use Rattle.po_base.specs.declared.operators.Op.{Op}
 use Rattle.po_base.specs.declared.operators.Op.TheVariants as op
 use Rattle.po_base.specs.declared.operand.Opnd.{Opnd}
 use Rattle.po_base.specs.declared.operand.Opnd.TheVariants.{Reg, Num}
+use Rattle.po_core.specs.declared.obl.Cause.TheVariants.{Primary}
+use Rattle.po_core.specs.declared.obl.Obl.{Obl}
 use Rattle.po_arith.specs.declared.int_type.IntType.{IntType}
 use Rattle.po_ir.specs.declared.instr.Ty.TheVariants.{Int, Ptr}
 use Rattle.po_ir.specs.declared.instr.Instr.{Instr}
-use Rattle.po_ir.specs.declared.instr.Instr.TheVariants.{Bin, Return}
+use Rattle.po_ir.specs.declared.instr.Instr.TheVariants.{Bin, Call, Return}
 use Rattle.po_ir.specs.declared.graph.Node.{Node}
 use Rattle.po_ir.specs.declared.project.Function.{Function}
 use Rattle.po_ir.specs.declared.project.Project.{Project}
@@ -18,15 +19,6 @@ use Rattle.po_pred.specs.declared.pred.Over.{Over}
 use Rattle.po_pred.specs.declared.pred.Over.TheVariants.{Add, Sub, Mul, Div, Rem}
 use Rattle.po_pred.specs.declared.pred.Pred.{Pred}
 use Rattle.po_pred.specs.declared.pred.Pred.TheVariants.{Nonzero, NoOver}
-use Rattle.po_app.specs.declared.report.Cause.{Cause}
-use Rattle.po_app.specs.declared.report.Cause.TheVariants.{Primary, Support}
-use Rattle.po_app.specs.declared.report.Obl.{Obl}
-use Rattle.po_app.specs.declared.report.Rule.TheVariants.{Range}
-use Rattle.po_app.specs.declared.report.Verdict.{Verdict}
-use Rattle.po_app.specs.declared.report.Verdict.TheVariants.{Closed, Delegated, Open}
-use Rattle.po_app.specs.declared.report.Ruling.{Ruling}
-use Rattle.po_app.specs.declared.report.Report.{Report}
-use Rattle.po_app.specs.Predicates.{HoldsForAll}
 
 abbrev pub place : Opnd → Place
 place (Reg r) = record { atom = Some (atom.Reg r); lo = pos 0; hi = pos 0 }
@@ -53,6 +45,7 @@ operator_predicates _ t a b = []
 abbrev pub predicates : Instr → List Pred
 predicates (Bin to op (Int t) a b) = operator_predicates op t (place a) (place b)
 predicates (Bin to op Ptr a b) = []
+predicates (Call to callee args) = []
 predicates (Return value) = []
 
 -- what f makes of each item and its place, which is counted from n on
@@ -60,12 +53,12 @@ abbrev pub each_from : {X Y : Type 0} → (ℕ → X → List Y) → ℕ → Lis
 each_from f n [] = []
 each_from f n (x ∷ xs) = f n x ++ each_from f (n + 1) xs
 
-abbrev pub primary : ℕ → ℕ → ℕ → Obl
+abbrev pub primary : ℕ → ℕ → ℕ → Obl Pred
 primary f n i = record { fun = record { 0 = f }; node = record { 0 = n }; cause = Primary i }
 
 -- an obligation with its predicate
 abbrev pub Asked : Type 0
-Asked = Obl × Pred
+Asked = Obl Pred × Pred
 
 abbrev pub node_obligations : ℕ → ℕ → Node → List Asked
 node_obligations f n node = each_from (λ i q. (primary f n i, q) ∷ []) 0 (predicates node.instr)
@@ -76,37 +69,3 @@ function_obligations f function = each_from (node_obligations f) 0 function.grap
 -- all of them, by function, node and place among the node's
 abbrev pub obligations : Project → List Asked
 obligations p = each_from function_obligations 0 p.functions
-
-abbrev pub function_of : Project → Obl → Option Function
-function_of p o = slice_get p.functions o.fun.0
-
-abbrev pub node_in : Option Function → ℕ → Option Node
-node_in None n = None
-node_in (Some f) n = slice_get f.graph.nodes n
-
-abbrev pub node_of : Project → Obl → Option Node
-node_of p o = node_in (function_of p o) o.node.0
-
-abbrev pub caused : Option Node → Cause → Option Pred
-caused None c = None
-caused (Some node) (Primary i) = slice_get (predicates node.instr) i
-caused (Some node) (Support q) = None
-
--- the predicate of an obligation
-abbrev pub predicate_of : Project → Obl → Option Pred
-predicate_of p o = caused (node_of p o) o.cause
-
--- a predicate is closed by `range` where it holds for all values of its places, and open otherwise
-abbrev pub IsVerdict : Pred → Verdict → Type 0
-IsVerdict q (Closed Range) = HoldsForAll q
-IsVerdict q (Delegated a) = ⊥
-IsVerdict q Open = HoldsForAll q → ⊥
-
--- the obligation with a verdict on its predicate
-abbrev pub IsRuling : Asked → Ruling → Type 0
-IsRuling asked x = (x.obl ≡ asked.0) × IsVerdict asked.1 x.verdict
-
--- the report lists each obligation once, in their order, with its verdict; nothing is assumed
-pub record IsReport (p : Project) (r : Report) : Type 0 where
-  pub ruled : AllZip IsRuling (obligations p) r.rulings
-  pub none_assumed : r.assumptions ≡ []

@@ -6,9 +6,11 @@ use Rattle.po_straight.specs.declared.definition.Definition.{Definition}
 use Rattle.po_straight.specs.Definitions.{IsFile}
 use Rattle.po_app.specs.declared.status.Status.{Status}
 use Rattle.po_app.specs.declared.status.Status.TheVariants.{Clean, Open, Usage, Refused, ReadFault, WriteFault, NoMemory}
-use Rattle.po_app.specs.declared.report.Report.{Report}
+use Rattle.po_core.specs.declared.report.Report.{Report}
+use Rattle.po_pred.specs.declared.pred.Pred.{Pred}
+use Rattle.po_app.specs.declared.rule.Rule.{Rule}
 use Rattle.po_app.specs.Lowering.{IsProject}
-use Rattle.po_app.specs.Obligations.{IsReport}
+use Rattle.po_app.specs.Closed.{IsReport}
 use Rattle.po_app.specs.ReportText.{report_text, count_of, says_open}
 use Rattle.po_app.specs.Command.{IsCheck, usage_text}
 
@@ -19,13 +21,13 @@ named_text what name = what ++ name ++ codes "\n"
 abbrev pub status_by : ℕ → Status
 status_by count = cond (count == 0) Clean Open
 
-abbrev pub status_of : Report → Status
-status_of r = status_by (count_of says_open r.rulings)
+abbrev pub status_of : Report Pred Rule → Status
+status_of r = status_by (count_of says_open r.lines)
 
 -- the text is that of the report on these definitions, and the status says whether it leaves an obligation open
 pub record IsReported (name : List ℕ) (ds : List Definition) (status : Status) (text : List ℕ) : Type 0 where
   pub project : Project
-  pub report : Report
+  pub report : Report Pred Rule
   pub lowered : IsProject name ds project
   pub ruled : IsReport project report
   pub answered : status ≡ status_of report

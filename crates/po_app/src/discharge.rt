@@ -1,19 +1,15 @@
-ghost use Rattle.std.specs.Prelude.{◌≡◌, ℤ, pos, negsuc, neg_ℤ, ◌+ℤ◌, IsTrue, ◌↔◌};
-ghost use Rattle.po_app.specs.Predicates.{MayBe, SecondMayBe, HoldsForAll};
-ghost use Rattle.po_app.specs.Obligations.{IsVerdict};
-ghost use Rattle.po_app.specs.Ranges.{IsIn, IsSmallPlace, IsSmallSecond, IsSmallPredicate, IsSmallRange};
+ghost use Rattle.std.specs.Prelude.{◌≡◌};
+ghost use Rattle.po_app.specs.Discharge.{range_of as range_of_place, second_range as range_of_second, is_closed as is_closed_by_ranges};
+ghost use Rattle.po_app.specs.Ranges.{IsSmallPlace, IsSmallSecond, IsSmallPredicate};
 
-use crate::range::{contains, never_leaves};
-use crate::report::{Rule, Verdict};
+use crate::range::{has, stays};
 use po_arith::Range;
 use po_pred::{Place, Pred};
 
-/// The values that a place may have: its own numbers, or every int moved by them.
-fn span(place: &Place) -> Range
+/// The numbers that a place may have: its own, or every int moved by them.
+pub(crate) fn range_of(place: &Place) -> Range
     requires { IsSmallPlace place.now }
-    ensures covers { (v : ℤ) → MayBe place.now v → IsIn result v }
-    ensures reaches { (v : ℤ) → IsIn result v → MayBe place.now v }
-    ensures small { IsSmallRange result }
+    ensures { result ≡ range_of_place place.now }
 {
     match place.atom {
         None => Range {
@@ -21,47 +17,34 @@ fn span(place: &Place) -> Range
             hi: place.hi,
         },
         Some(_) => Range {
-            lo: place.lo - 2_147_483_648,
-            hi: place.hi + 2_147_483_647,
+            lo: -2_147_483_648 + place.lo,
+            hi: 2_147_483_647 + place.hi,
         },
     }
 }
 
-/// The values of a second operand, 0 where an operator has none.
-fn span_of_second(place: &Option<Place>) -> Range
+/// The numbers of a second operand, 0 where an operator has none.
+fn second_range(place: &Option<Place>) -> Range
     requires { IsSmallSecond place.now }
-    ensures covers { (v : ℤ) → SecondMayBe place.now v → IsIn result v }
-    ensures reaches { (v : ℤ) → IsIn result v → SecondMayBe place.now v }
-    ensures small { IsSmallRange result }
+    ensures { result ≡ range_of_second place.now }
 {
     match place {
         None => Range { lo: 0, hi: 0 },
-        Some(place) => span(place),
+        Some(place) => range_of(place),
     }
 }
 
-/// Whether a predicate holds for all values that its places may have.
-fn holds_for_all(predicate: &Pred) -> bool
+/// Whether a predicate is closed by the ranges of its places. In constant time.
+pub(crate) fn is_closed(predicate: &Pred) -> bool
     requires { IsSmallPredicate predicate.now }
-    ensures { IsTrue result ↔ HoldsForAll predicate.now }
+    ensures { result ≡ is_closed_by_ranges predicate.now }
 {
     match predicate {
-        Pred::Nonzero { x } => !contains(&span(x), 0),
+        Pred::Nonzero { x } => !has(&range_of(x), 0),
         Pred::NoOver { op, bits, a, b } => {
-            let first = span(a);
-            let second = span_of_second(b);
-            never_leaves(*op, *bits, &first, &second)
+            let first = range_of(a);
+            let second = second_range(b);
+            stays(*op, *bits, &first, &second)
         }
     }
-}
-
-/// The verdict on a predicate: closed by its operands' ranges, or open. In constant time.
-pub(crate) fn verdict(predicate: &Pred) -> Verdict
-    requires { IsSmallPredicate predicate.now }
-    ensures { IsVerdict predicate.now result }
-{
-    if holds_for_all(predicate) {
-        return Verdict::Closed(Rule::Range);
-    }
-    Verdict::Open
 }

@@ -1,12 +1,12 @@
-ghost use Rattle.std.specs.Prelude.{◌≡◌, ◌+◌, ◌<◌, ◌^◌, ◌++◌, length, map, replicate, All, IfOk, OnOk, codes};
-ghost use Rattle.po_straight.specs.Definitions.{operators};
-ghost use Rattle.po_app.specs.Lowering.{node_at, parameter_register, temporary_register, IsFunction, IsGraph, IsProject};
-ghost use Rattle.po_app.specs.Lowered.{Appends, IsCounted, IsSmallGraph};
+ghost use Rattle.std.specs.Prelude.{◌≡◌, ◌+◌, ◌<◌, ◌^◌, ◌++◌, length, map, replicate, sum_by, All, Some, IfOk, OnOk, codes};
+ghost use Rattle.po_straight.specs.Definitions.{operations};
+ghost use Rattle.po_app.specs.Lowering.{int, node_at, parameter_register, temporary_register, IsFunction, IsGraph, IsProject};
+ghost use Rattle.po_app.specs.Lowered.{Appends, AppendsAll, IsCounted, IsSmallGraph};
 ghost use Rattle.po_app.specs.Ranges.{IsSmallFunction, IsSmallProject};
 
 use po_arith::IntType;
-use po_base::{FileNo, List, Memory, Opnd, RegNo, Spot, Text};
-use po_ir::{CTypeText, Function, Graph, Instr, Node, Project, Reg, Ty};
+use po_base::{FileNo, FunNo, List, Memory, Op, Opnd, RegNo, Spot, Text};
+use po_ir::{CTypeText, Callee, Function, Graph, Instr, Node, Project, Reg, Ty};
 use po_straight::{Definition, Expression};
 use std::alloc::Global;
 
@@ -21,40 +21,80 @@ fn node(file: &Text, line: u32, instr: Instr) -> Result<Node, Memory>
     Ok(Node { instr, spot })
 }
 
+/// The node of an operator on ints.
+fn operation(file: &Text, line: u32, to: RegNo, op: Op, a: Opnd, b: Opnd) -> Result<Node, Memory>
+    ensures { IfOk result (λ node. node ≡ node_at file.now line (Instr.Bin to op int a b)) }
+{
+    let ty = Ty::Int(IntType::INT);
+    Ok(node(file, line, Instr::Bin { to, op, ty, a, b })?)
+}
+
+/// The node of a call of a function of the file. As many arguments as 32 bits don't count are want of memory: their
+/// values alone take more than 2^36 bytes.
+fn call(file: &Text, line: u32, to: RegNo, function: u32, args: List<Opnd>) -> Result<Node, Memory>
+    ensures node { IfOk result (λ node. node ≡ node_at file.now line (Instr.Call (Some to) (Callee.Fun (record { 0 = function })) args)) }
+    ensures few { OnOk result (length args < 2 ^ 32) }
+{
+    if args.len() > 4_294_967_295 {
+        return Err(Memory);
+    }
+    let to = Some(to);
+    let callee = Callee::Fun(FunNo(function));
+    Ok(node(file, line, Instr::Call { to, callee, args })?)
+}
+
 /// Appends the nodes of an expression and gives the operand that holds its value. In time linear in the
 /// expression; the recursion is as deep as the expression is high.
+#[cycle(lowering)]
 fn lower_expression(
+    alloc: Global,
     file: &Text,
     parameters: u32,
     x: &Expression,
     nodes: &mut List<Node>,
 ) -> Result<Opnd, Memory>
-    requires { parameters + (length nodes.old + operators x.now) < 2 ^ 32 }
+    requires { parameters + (length nodes.old + operations x.now) < 2 ^ 32 }
     ensures { IfOk result (Appends file.now parameters x.now nodes.old nodes.new) }
 {
     match x {
         Expression::Parameter(place) => Ok(Opnd::Reg(RegNo(*place))),
         Expression::Constant(value) => Ok(Opnd::Num(i128::from(*value))),
-        Expression::Paren(inner) => Ok(lower_expression(file, parameters, inner.get(), nodes)?),
+        Expression::Paren(inner) => {
+            Ok(lower_expression(alloc, file, parameters, inner.get(), nodes)?)
+        }
         Expression::Binary(op, line, left, right) => {
-            let a = lower_expression(file, parameters, left.get(), nodes)?;
-            let b = lower_expression(file, parameters, right.get(), nodes)?;
+            let a = lower_expression(alloc, file, parameters, left.get(), nodes)?;
+            let b = lower_expression(alloc, file, parameters, right.get(), nodes)?;
             let to = RegNo(parameters + nodes.len() as u32);
-            let ty = Ty::Int(IntType::INT);
-            nodes.push(node(
-                file,
-                *line,
-                Instr::Bin {
-                    to,
-                    op: *op,
-                    ty,
-                    a,
-                    b,
-                },
-            )?)?;
+            nodes.push(operation(file, *line, to, *op, a, b)?)?;
+            Ok(Opnd::Reg(to))
+        }
+        Expression::Call(function, line, arguments) => {
+            let values = lower_arguments(alloc, file, parameters, arguments.as_slice(), nodes)?;
+            let to = RegNo(parameters + nodes.len() as u32);
+            nodes.push(call(file, *line, to, *function, values)?)?;
             Ok(Opnd::Reg(to))
         }
     }
+}
+
+/// Appends the nodes of a call's arguments, from left to right, and gives their values.
+#[cycle(lowering)]
+fn lower_arguments(
+    alloc: Global,
+    file: &Text,
+    parameters: u32,
+    arguments: &[Expression],
+    nodes: &mut List<Node>,
+) -> Result<List<Opnd>, Memory>
+    requires { parameters + (length nodes.old + sum_by operations arguments.now) < 2 ^ 32 }
+    ensures { IfOk result (AppendsAll file.now parameters arguments.now nodes.old nodes.new) }
+{
+    let mut values = List::new(alloc);
+    for argument in arguments {
+        values.push(lower_expression(alloc, file, parameters, argument, nodes)?)?;
+    }
+    Ok(values)
 }
 
 /// A register for each parameter, by its name.
@@ -73,7 +113,7 @@ fn parameter_registers(alloc: Global, names: &List<Text>) -> Result<List<Reg>, M
     Ok(regs)
 }
 
-/// Adds registers without a name, in which the operators' results are held.
+/// Adds registers without a name, in which the results of operators and calls are held.
 fn add_temporaries(regs: &mut List<Reg>, count: usize) -> Result<(), Memory>
     ensures { OnOk result (regs.new ≡ regs.old ++ replicate count temporary_register) }
 {
@@ -95,7 +135,7 @@ fn graph(alloc: Global, file: &Text, definition: &Definition) -> Result<Graph, M
 {
     let params = definition.parameters.len() as u32;
     let mut nodes = List::new(alloc);
-    let value = lower_expression(file, params, &definition.value, &mut nodes)?;
+    let value = lower_expression(alloc, file, params, &definition.value, &mut nodes)?;
     let mut regs = parameter_registers(alloc, &definition.parameters)?;
     add_temporaries(&mut regs, nodes.len())?;
     let value = Some(value);

@@ -1,6 +1,5 @@
 ghost use Rattle.std.specs.Prelude.{◌≡◌, ◌++◌, IfOk, OnOk};
 ghost use Rattle.po_app.specs.Obligations.{place as place_of, overflow as overflow_of, division as division_of, operator_predicates as predicates_of_operator, predicates as predicates_of};
-ghost use Rattle.po_app.specs.Ranges.{AreSmall, AreSmallOf, IsSmallInstr, IsSmallOperand, IsSmallPlace};
 
 use po_arith::IntType;
 use po_base::{List, Memory, Op, Opnd};
@@ -9,8 +8,7 @@ use po_pred::{Atom, Over, Place, Pred};
 use std::alloc::Global;
 
 fn place(operand: &Opnd) -> Place
-    ensures exact { result ≡ place_of operand.now }
-    ensures small { IsSmallOperand operand.now → IsSmallPlace result }
+    ensures { result ≡ place_of operand.now }
 {
     match *operand {
         Opnd::Reg(register) => Place {
@@ -55,8 +53,7 @@ fn overflow(
     a: &Place,
     b: &Place,
 ) -> Result<List<Pred>, Memory>
-    ensures exact { IfOk result (λ list. list ≡ overflow_of op ty.now a.now b.now) }
-    ensures small { AreSmallOf ty.now a.now b.now → IfOk result AreSmall }
+    ensures { IfOk result (λ list. list ≡ overflow_of op ty.now a.now b.now) }
 {
     let mut only = List::new(alloc);
     add_overflow(&mut only, op, ty, a, b)?;
@@ -71,8 +68,7 @@ fn division(
     a: &Place,
     b: &Place,
 ) -> Result<List<Pred>, Memory>
-    ensures exact { IfOk result (λ list. list ≡ division_of op ty.now a.now b.now) }
-    ensures small { AreSmallOf ty.now a.now b.now → IfOk result AreSmall }
+    ensures { IfOk result (λ list. list ≡ division_of op ty.now a.now b.now) }
 {
     let mut list = List::new(alloc);
     list.push(Pred::Nonzero { x: *b })?;
@@ -87,8 +83,7 @@ fn operator_predicates(
     a: &Place,
     b: &Place,
 ) -> Result<List<Pred>, Memory>
-    ensures exact { IfOk result (λ list. list ≡ predicates_of_operator op ty.now a.now b.now) }
-    ensures small { AreSmallOf ty.now a.now b.now → IfOk result AreSmall }
+    ensures { IfOk result (λ list. list ≡ predicates_of_operator op ty.now a.now b.now) }
 {
     match op {
         Op::Add => overflow(alloc, Over::Add, ty, a, b),
@@ -102,8 +97,7 @@ fn operator_predicates(
 
 /// The predicates that a node's operation asks for, in their order. In constant time.
 pub(crate) fn predicates(alloc: Global, instr: &Instr) -> Result<List<Pred>, Memory>
-    ensures exact { IfOk result (λ list. list ≡ predicates_of instr.now) }
-    ensures small { IsSmallInstr instr.now → IfOk result AreSmall }
+    ensures { IfOk result (λ list. list ≡ predicates_of instr.now) }
 {
     match instr {
         Instr::Bin {
@@ -114,6 +108,7 @@ pub(crate) fn predicates(alloc: Global, instr: &Instr) -> Result<List<Pred>, Mem
             ..
         } => { operator_predicates(alloc, *op, ty, &place(a), &place(b)) }
         Instr::Bin { ty: Ty::Ptr, .. } => Ok(List::new(alloc)),
+        Instr::Call { .. } => Ok(List::new(alloc)),
         Instr::Return { .. } => Ok(List::new(alloc)),
     }
 }

@@ -1,25 +1,17 @@
-ghost use Rattle.std.specs.Prelude.{◌≡◌, ◌≤ℤ◌, ◌<ℤ◌, ◌+ℤ◌, ◌-ℤ◌, ◌*ℤ◌, neg_ℤ, pos, negsuc, ℤ, IsTrue, ◌↔◌, ◌≤◌, ◌^◌};
-ghost use Rattle.std.specs.Int.RustNames.{unsigned_abs};
-ghost use Rattle.po_app.specs.Predicates.{IsOfType, half as half_of};
-ghost use Rattle.po_app.specs.Ranges.{IsIn, IsSmallRange, IsWidth, NeverLeaves};
+ghost use Rattle.std.specs.Prelude.{◌≡◌, ◌&&◌, ◌*ℤ◌, pos, ℤ};
+ghost use Rattle.po_app.specs.Predicates.{half as half_of};
 ghost use Rattle.po_app.specs.Corners.{sums, differences, products};
+ghost use Rattle.po_app.specs.Discharge.{has as has_number, of_type, ends_fit, stays as stays_over};
+ghost use Rattle.po_app.specs.Ranges.{IsCounted, IsWidth};
 
 use po_arith::Range;
 use po_pred::Over;
 
-pub(crate) fn contains(range: &Range, v: i128) -> bool
-    ensures { IsTrue result ↔ IsIn range.now v }
+/// Whether a number is between the ends.
+pub(crate) fn has(range: &Range, v: i128) -> bool
+    ensures { result ≡ has_number range.now v }
 {
     range.lo <= v && v <= range.hi
-}
-
-/// Whether both ends are numbers of the signed type of this width.
-fn is_of_type(range: &Range, bits: u8) -> bool
-    requires { IsWidth bits }
-    ensures { IsTrue result ↔ (IsOfType bits range.now.lo × IsOfType bits range.now.hi) }
-{
-    let half = half(bits);
-    -half <= range.lo && range.lo < half && -half <= range.hi && range.hi < half
 }
 
 /// Half of the numbers of the integer types of this width.
@@ -34,73 +26,75 @@ fn half(bits: u8) -> i128
     }
 }
 
-fn sum(a: &Range, b: &Range) -> Range
-    requires a { IsSmallRange a.now }
-    requires b { IsSmallRange b.now }
-    ensures { result ≡ sums a.now b.now }
+/// Whether a number is of the signed type of this width.
+fn is_of_type(bits: u8, v: i128) -> bool
+    requires { IsWidth bits }
+    ensures { result ≡ of_type bits v }
 {
-    Range {
-        lo: a.lo + b.lo,
-        hi: a.hi + b.hi,
+    let half = half(bits);
+    -half <= v && v < half
+}
+
+/// The same of a result: one that 128 bits don't hold isn't of the type.
+fn fits(bits: u8, counted: Option<i128>) -> bool
+    requires { IsWidth bits }
+    ensures { (z : ℤ) → IsCounted counted z → result ≡ of_type bits z }
+{
+    match counted {
+        None => false,
+        Some(v) => is_of_type(bits, v),
     }
 }
 
-fn difference(a: &Range, b: &Range) -> Range
-    requires a { IsSmallRange a.now }
-    requires b { IsSmallRange b.now }
-    ensures { result ≡ differences a.now b.now }
+fn sums_fit(bits: u8, a: &Range, b: &Range) -> bool
+    requires { IsWidth bits }
+    ensures { result ≡ ends_fit bits (sums a.now b.now) }
 {
-    Range {
-        lo: a.lo - b.hi,
-        hi: a.hi - b.lo,
-    }
+    fits(bits, a.lo.checked_add(b.lo)) && fits(bits, a.hi.checked_add(b.hi))
 }
 
-/// Both ends times a number.
-fn ends_times(a: &Range, k: i128) -> Range
-    requires a { IsSmallRange a.now }
-    requires k { unsigned_abs k ≤ 2 ^ 63 }
-    ensures { result ≡ record { lo = a.now.lo *ℤ k; hi = a.now.hi *ℤ k } }
+fn differences_fit(bits: u8, a: &Range, b: &Range) -> bool
+    requires { IsWidth bits }
+    ensures { result ≡ ends_fit bits (differences a.now b.now) }
 {
-    Range {
-        lo: a.lo * k,
-        hi: a.hi * k,
-    }
+    fits(bits, a.lo.checked_sub(b.hi)) && fits(bits, a.hi.checked_sub(b.lo))
 }
 
-/// From the least to the greatest product of an end of one and an end of the other.
-fn product(a: &Range, b: &Range) -> Range
-    requires a { IsSmallRange a.now }
-    requires b { IsSmallRange b.now }
-    ensures { result ≡ products a.now b.now }
+/// Whether both ends times a number are of the type.
+fn ends_times_fit(bits: u8, a: &Range, k: i128) -> bool
+    requires { IsWidth bits }
+    ensures { result ≡ (of_type bits (a.now.lo *ℤ k) && of_type bits (a.now.hi *ℤ k)) }
 {
-    let low = ends_times(a, b.lo);
-    let high = ends_times(a, b.hi);
-    Range {
-        lo: low.lo.min(low.hi).min(high.lo.min(high.hi)),
-        hi: low.lo.max(low.hi).max(high.lo.max(high.hi)),
-    }
+    fits(bits, a.lo.checked_mul(k)) && fits(bits, a.hi.checked_mul(k))
+}
+
+fn products_fit(bits: u8, a: &Range, b: &Range) -> bool
+    requires { IsWidth bits }
+    ensures { result ≡ ends_fit bits (products a.now b.now) }
+{
+    let low = ends_times_fit(bits, a, b.lo);
+    let high = ends_times_fit(bits, a, b.hi);
+    low && high
 }
 
 /// Whether the least number is never divided by -1.
 fn never_least_by_minus_one(bits: u8, a: &Range, b: &Range) -> bool
     requires { IsWidth bits }
-    ensures { IsTrue result ↔ ((IsIn a.now (neg_ℤ (pos (half_of bits))) × IsIn b.now (negsuc 0)) → ⊥) }
+    ensures div { result ≡ stays_over Over.Div bits a.now b.now }
+    ensures rem { result ≡ stays_over Over.Rem bits a.now b.now }
 {
-    !(contains(a, -half(bits)) && contains(b, -1))
+    !(has(a, -half(bits)) && has(b, -1))
 }
 
 /// Whether no result of numbers of the two ranges leaves the signed type of this width. In constant time.
-pub(crate) fn never_leaves(op: Over, bits: u8, a: &Range, b: &Range) -> bool
-    requires bits { IsWidth bits }
-    requires a { IsSmallRange a.now }
-    requires b { IsSmallRange b.now }
-    ensures { IsTrue result ↔ NeverLeaves op bits a.now b.now }
+pub(crate) fn stays(op: Over, bits: u8, a: &Range, b: &Range) -> bool
+    requires { IsWidth bits }
+    ensures { result ≡ stays_over op bits a.now b.now }
 {
     match op {
-        Over::Add => is_of_type(&sum(a, b), bits),
-        Over::Sub => is_of_type(&difference(a, b), bits),
-        Over::Mul => is_of_type(&product(a, b), bits),
+        Over::Add => sums_fit(bits, a, b),
+        Over::Sub => differences_fit(bits, a, b),
+        Over::Mul => products_fit(bits, a, b),
         Over::Div => never_least_by_minus_one(bits, a, b),
         Over::Rem => never_least_by_minus_one(bits, a, b),
     }

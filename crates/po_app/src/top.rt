@@ -3,24 +3,30 @@ ghost use Rattle.po_io.specs.Count.{Rose};
 ghost use Rattle.po_straight.specs.declared.definition.Definition.{Definition as Tree};
 ghost use Rattle.po_straight.specs.Definitions.{IsFile};
 ghost use Rattle.po_ir.specs.declared.project.Project.{Project as ProjectOf};
-ghost use Rattle.po_app.specs.declared.report.Report.{Report as ReportOf};
+ghost use Rattle.po_core.specs.declared.report.Report.{Report as ReportOf};
+ghost use Rattle.po_pred.specs.declared.pred.Pred.{Pred as PredOf};
+ghost use Rattle.po_app.specs.declared.rule.Rule.{Rule as RuleOf};
 ghost use Rattle.po_app.specs.Lowering.{IsProject};
-ghost use Rattle.po_app.specs.Obligations.{IsReport};
+ghost use Rattle.po_app.specs.Closed.{IsReport};
 ghost use Rattle.po_app.specs.Sound.{Sound};
 ghost use Rattle.po_app.specs.Command.{IsCheck};
 ghost use Rattle.po_app.specs.Lowered.{IsCounted};
 ghost use Rattle.po_app.specs.Ranges.{IsSmallProject};
-ghost use Rattle.po_app.specs.Outcome.{named_text, status_by, IsReported, IsReportOrNoMemory, Decides, Answers, Ends, Told};
+ghost use Rattle.po_app.specs.Outcome.{named_text, status_of as status_of_report, IsReported, IsReportOrNoMemory, Decides, Answers, Ends, Told};
 
 use crate::laws::report_is_sound;
 use crate::lowering::project;
-use crate::solve::written_report;
+use crate::report_text::report_text;
+use crate::rule::Rule;
+use crate::solve::report_of;
 use crate::status::Status;
+use crate::tally::Tally;
 use crate::words::file_to_check;
 use po_base::{List, Memory, Text};
+use po_core::Report;
 use po_io::{Files, ReadFail, Sink, read_file, write_all};
 use po_ir::Project;
-use po_pred::Out;
+use po_pred::{Out, Pred};
 use po_straight::{Definition, read_definitions};
 use std::alloc::Global;
 
@@ -63,18 +69,18 @@ fn report_on(alloc: Global, name: &str, definitions: List<Definition>) -> Result
     ensures { IfOk result (λ decision. IsReported name.now definitions decision.status decision.text.items) }
 {
     let project = lowered(alloc, name, definitions)?;
-    let written = written_report(alloc, &project)?;
+    let report = report_of(alloc, &project)?;
     Ok(Decision {
-        status: status_of(written.left_open),
-        text: written.text,
+        status: status_of(&report),
+        text: report_text(alloc, &project, &report)?,
     })
 }
 
 /// Open where an obligation is left open, and clean otherwise.
-fn status_of(left_open: usize) -> Status
-    ensures { result ≡ status_by left_open }
+fn status_of(report: &Report<Pred, Rule>) -> Status
+    ensures { result ≡ status_of_report report.now }
 {
-    if left_open == 0 {
+    if Tally::of(report.lines.as_slice()).left_open == 0 {
         Status::Clean
     } else {
         Status::Open
@@ -153,7 +159,7 @@ pub fn run<F: Files, S: Sink>(
 
     // Whatever file of these definitions is reported on: in every run of one of its functions, from any int arguments
     // and of any number of steps, the obligation that is violated first is listed as open.
-    ensures sound { (name bytes : Sequence ℕ) (ds : Sequence Tree) (p : ProjectOf) (r : ReportOf) → IsFile ds bytes → IsProject name ds p → IsReport p r → Sound p r }
+    ensures sound { (name bytes : Sequence ℕ) (ds : Sequence Tree) (p : ProjectOf) (r : ReportOf PredOf RuleOf) → IsFile ds bytes → IsProject name ds p → IsReport p r → Sound p r }
 {
     report_is_sound();
     match decide(alloc, words, files) {

@@ -6,3 +6,4 @@ pub mod Theorem
 pub mod Lists
 pub mod Decided
 pub mod Marks
+pub mod Single

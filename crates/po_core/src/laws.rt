@@ -1,7 +1,9 @@
-ghost use Rattle.std.specs.Prelude.{◌≤◌, List};
+ghost use Rattle.std.specs.Prelude.{◌≡◌, ◌≤◌, List};
 ghost use Rattle.po_core.specs.Core.{CoreState, IsQuiet, Replays};
 ghost use Rattle.po_core.specs.Theorem.{IsLeast, IsOrderly, IsWithin, most_obligations, settle_count};
+ghost use Rattle.po_core.specs.Least.{IsLeastReport};
 ghost use Rattle.po_core.specs.declared.event.Event.{Event};
+ghost use Rattle.po_core.specs.declared.report.Report.{Report};
 
 use crate::book::Rulebook;
 
@@ -32,6 +34,13 @@ pub fn legal_lists_are_orderly<R: Rulebook>(book: &R)
 /// does nothing.
 pub fn settles_are_bounded<R: Rulebook>(book: &R)
     ensures { (es : List (Event R.Pred R.Rule)) (s : CoreState R.Pred R.Rule) → Replays (R.meaning book.now) es s → settle_count es ≤ most_obligations (R.meaning book.now) }
+{
+    let _book = book;
+}
+
+/// A rulebook has one least report, with one order of its lines. It does nothing.
+pub fn least_report_is_one<R: Rulebook>(book: &R)
+    ensures { (r s : Report R.Pred R.Rule) → IsLeastReport R.Pred.cmp (R.meaning book.now) r → IsLeastReport R.Pred.cmp (R.meaning book.now) s → r ≡ s }
 {
     let _book = book;
 }

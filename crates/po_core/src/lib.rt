@@ -12,7 +12,8 @@ mod report;
 pub use book::Rulebook;
 pub use event::{Event, Hand, Journal, Mark};
 pub use laws::{
-    legal_lists_are_orderly, legal_lists_stay_within, quiet_lists_are_least, settles_are_bounded,
+    least_report_is_one, legal_lists_are_orderly, legal_lists_stay_within, quiet_lists_are_least,
+    settles_are_bounded,
 };
 pub use obl::{Cause, Obl, Verdict};
 pub use report::Report;

@@ -6,5 +6,5 @@ mod instr;
 mod project;
 
 pub use graph::{Graph, Node, Reg, Slot};
-pub use instr::{Instr, Ty};
+pub use instr::{Callee, Instr, Ty};
 pub use project::{CTypeText, Function, Project};

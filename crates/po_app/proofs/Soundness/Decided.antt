@@ -1,82 +1,79 @@
--- Each obligation of a frame whose first registers hold ints either holds or doesn't.
+-- Each predicate whose places stand on ints holds in the frame or doesn't.
 use Rattle.std.proofs.Common.{◌≡◌, ℕ, List, [], ◌∷◌, ◌++◌, refl, sym, ap, subst, ◌∙◌, ◌⊎◌, inl, inr, arith, true}
-use Rattle.std.specs.Prelude.{ℤ, pos, negsuc, neg_ℤ, ◌+ℤ◌, ◌-ℤ◌, ◌*ℤ◌, ◌≤ℤ◌, ◌<ℤ◌, Some}
+use Rattle.std.specs.Prelude.{ℤ, pos, ◌+ℤ◌, ◌-ℤ◌, ◌*ℤ◌, Option, Some, None}
 use Rattle.std.specs.Int.RustNames.{int_div, int_rem}
+use Rattle.std.proofs.lemmas.Bool.{cases_Bool, both_ways}
 use Rattle.std.proofs.lemmas.Int.{ints, by_lt_z}
 use Rattle.std.proofs.lemmas.List.Elements.{All-nil, All-cons}
+use Rattle.po_arith.specs.declared.range.Range.{Range}
 use Rattle.po_base.specs.declared.operators.Op.{Op}
 use Rattle.po_base.specs.declared.operators.Op.TheVariants as op
 use Rattle.po_base.specs.declared.operand.Opnd.{Opnd}
+use Rattle.po_core.specs.Decided.{IsDecided}
+use Rattle.po_core.specs.Lists.{Has}
 use Rattle.po_pred.specs.declared.pred.Over.{Over}
-use Rattle.po_pred.specs.declared.pred.Over.TheVariants.{Add, Sub, Mul, Div, Rem}
+use Rattle.po_pred.specs.declared.pred.Place.{Place}
 use Rattle.po_pred.specs.declared.pred.Pred.{Pred}
 use Rattle.po_pred.specs.declared.pred.Pred.TheVariants.{Nonzero, NoOver}
-use Rattle.po_app.specs.Predicates.{IsOfType, Fits, half}
+use Rattle.po_app.specs.Predicates.{IsMoved}
+use Rattle.po_app.specs.Ranges.{IsIn, NeverLeaves}
+use Rattle.po_app.specs.Discharge.{stays}
 use Rattle.po_app.specs.Obligations.{Asked, place}
-use Rattle.po_app.specs.Meaning.{number, Frame, operand_value, Holds, AllHold, IsResult}
-use Rattle.po_app.proofs.Soundness.Members.{In}
-use Rattle.po_app.proofs.Soundness.Registers.{Filled}
-use Rattle.po_app.proofs.Soundness.Places.{IsBefore, IsAbout, operand_known, has_number, chooses, chosen}
+use Rattle.po_app.specs.Meaning.{number, Frame, operand_value, Chooses, SecondChooses, Holds, AllHold, IsResult}
+use Rattle.po_app.proofs.Tells.{stays_tells}
+use Rattle.po_app.proofs.Soundness.Places.{IsReady, SecondReady, AreReady, same_number, ready_number, second_number, chooses}
 use Rattle.po_app.proofs.Soundness.Results.{asks}
 use Rattle.po_app.proofs.Soundness.Served.{is_arithmetic}
 
--- P is so or isn't
-abbrev pub Decided : Type 0 → Type 0
-Decided P = P ⊎ (P → ⊥)
+-- the numbers of which this is so are those of a range
+record AreOfRange (IsSo : ℤ → Type 0) : Type 0 where
+  range : Range
+  covers : (v : ℤ) → IsSo v → IsIn range v
+  within : (v : ℤ) → IsIn range v → IsSo v
 
-decided_both : (P Q : Type 0) → Decided P → Decided Q → Decided (P × Q)
-decided_both P Q (inl p) (inl q) = inl (p, q)
-decided_both P Q (inl p) (inr n) = inr (λ both. n both.1)
-decided_both P Q (inr n) d = inr (λ both. n both.0)
+chosen_range : (frame : Frame) (p : Place) → IsReady frame p → AreOfRange (Chooses frame p)
+chosen_range frame p k = record {
+  range = record { lo = k.0 +ℤ p.lo; hi = k.0 +ℤ p.hi };
+  covers = λ v c. subst (λ u. IsMoved p u v) (same_number c.0 k.0 (sym c.1 ∙ k.1)) c.2;
+  within = λ v moved. (k.0, k.1, moved);
+}
 
-decided_not : (P : Type 0) → Decided P → Decided (P → ⊥)
-decided_not P (inl p) = inr (λ n. n p)
-decided_not P (inr n) = inl n
+second_range : (frame : Frame) (b : Option Place) → SecondReady frame b → AreOfRange (SecondChooses frame b)
+second_range frame None k = record { range = record { lo = pos 0; hi = pos 0 }; covers = λ v c. (omega (arith, ints, c), omega (arith, ints, c)); within = λ v h. let low = h.0 in let high = h.1 in omega (arith, ints, low, high) }
+second_range frame (Some p) k = chosen_range frame p k
 
-decided_at_most : (a b : ℤ) → Decided (a ≤ℤ b)
-decided_at_most a b = by_lt_z b a (λ above. inr (λ h. absurd (omega (arith, ints)))) (λ h. inl h)
+is_in_decided : (range : Range) (v : ℤ) → IsDecided (IsIn range v)
+is_in_decided range v =
+    by_lt_z v range.lo (λ below. inr (λ h. let low = h.0 in absurd (omega (arith, ints)))) (λ low. by_lt_z range.hi v (λ above. inr (λ h. let high = h.1 in absurd (omega (arith, ints)))) (λ high. inl (low, high)))
 
-decided_below : (a b : ℤ) → Decided (a <ℤ b)
-decided_below a b = by_lt_z a b (λ h. inl h) (λ above. inr (λ h. absurd (omega (arith, ints))))
+never_leaves_decided : (o : Over) (bits : ℕ) (a b : Range) → IsDecided (NeverLeaves o bits a b)
+never_leaves_decided o bits a b =
+    by_lt_z a.hi a.lo (λ none. inl (λ v w p q. let low = p.0 in let high = p.1 in absurd (omega (arith, ints))))
+    (λ a_sorted. by_lt_z b.hi b.lo (λ none. inl (λ v w p q. let low = q.0 in let high = q.1 in absurd (omega (arith, ints))))
+    (λ b_sorted.
+    let tells = stays_tells o bits a b a_sorted b_sorted in
+    elim (cases_Bool (stays o bits a b)) [ inl so ↦ inl (tells.0 so) | inr not_so ↦ inr (λ h. both_ways (stays o bits a b) not_so (tells.1 h)) ]))
 
-decided_same : (a b : ℤ) → Decided (a ≡ b)
-decided_same a b = by_lt_z a b (λ below. inr (λ h. absurd (omega (arith, ints)))) (λ low. by_lt_z b a (λ below. inr (λ h. absurd (omega (arith, ints)))) (λ high. inl (omega (arith, ints))))
-
-decided_int : (v : ℤ) → Decided (IsOfType 32 v)
-decided_int v = decided_both _ _ (decided_at_most (neg_ℤ (pos (half 32))) v) (decided_below v (pos (half 32)))
-
-decided_fits : (o : Over) (v w : ℤ) → Decided (Fits o 32 v w)
-decided_fits Add v w = decided_int (v +ℤ w)
-decided_fits Sub v w = decided_int (v -ℤ w)
-decided_fits Mul v w = decided_int (v *ℤ w)
-decided_fits Div v w = decided_not _ (decided_both _ _ (decided_same v (neg_ℤ (pos (half 32)))) (decided_same w (negsuc 0)))
-decided_fits Rem v w = decided_not _ (decided_both _ _ (decided_same v (neg_ℤ (pos (half 32)))) (decided_same w (negsuc 0)))
-
-decided_nonzero : (b : Opnd) (frame : Frame) (limit : ℕ) → IsBefore limit b → Filled limit frame.regs → Decided (Holds frame (Nonzero (place b)))
-decided_nonzero b frame limit before filled =
-    let w = operand_known limit b frame before filled in
-    elim (decided_same w.0 (pos 0)) [
-      | inl is ↦ inr (λ h. h.1 w.0 (chooses b frame w.0 w.1) is)
-      | inr other ↦ inl (has_number limit b frame before filled, λ v c is. other (sym (chosen b frame w.0 v w.1 c) ∙ is))
+nonzero_decided : (x : Place) (frame : Frame) → IsReady frame x → IsDecided (Holds frame (Nonzero x))
+nonzero_decided x frame k =
+    let a = chosen_range frame x k in
+    elim (is_in_decided a.range (pos 0)) [
+      | inl there ↦ inr (λ h. h.1 (pos 0) (a.within (pos 0) there) refl)
+      | inr other ↦ inl (ready_number frame x k, λ v c zero. other (subst (IsIn a.range) zero (a.covers v c)))
     ]
 
-decided_overflow : (o : Over) (a b : Opnd) (frame : Frame) (limit : ℕ) → IsBefore limit a → IsBefore limit b → Filled limit frame.regs → Decided (Holds frame (NoOver o 32 (place a) (Some (place b))))
-decided_overflow o a b frame limit a_before b_before filled =
-    let v = operand_known limit a frame a_before filled in
-    let w = operand_known limit b frame b_before filled in
-    elim (decided_fits o v.0 w.0) [
-      | inl fits ↦
-          inl (
-            has_number limit a frame a_before filled,
-            has_number limit b frame b_before filled,
-            λ x y c d. subst (λ z. Fits o 32 z y) (sym (chosen a frame v.0 x v.1 c)) (subst (λ z. Fits o 32 v.0 z) (sym (chosen b frame w.0 y w.1 d)) fits),
-          )
-      | inr other ↦ inr (λ h. other (h.2 v.0 w.0 (chooses a frame v.0 v.1) (chooses b frame w.0 w.1)))
+overflow_decided : (o : Over) (bits : ℕ) (x : Place) (y : Option Place) (frame : Frame) → IsReady frame x → SecondReady frame y → IsDecided (Holds frame (NoOver o bits x y))
+overflow_decided o bits x y frame k l =
+    let a = chosen_range frame x k in
+    let b = second_range frame y l in
+    elim (never_leaves_decided o bits a.range b.range) [
+      | inl never ↦ inl (ready_number frame x k, second_number frame y l, λ v w c d. never v w (a.covers v c) (b.covers w d))
+      | inr other ↦ inr (λ h. other (λ v w p q. h.2 v w (a.within v p) (b.within w q)))
     ]
 
-pub decided_predicate : (a b : Opnd) (q : Pred) (frame : Frame) (limit : ℕ) → IsAbout a b q → IsBefore limit a → IsBefore limit b → Filled limit frame.regs → Decided (Holds frame q)
-decided_predicate a b q frame limit (inl is) a_before b_before filled = subst (λ z. Decided (Holds frame z)) (sym is) (decided_nonzero b frame limit b_before filled)
-decided_predicate a b q frame limit (inr is) a_before b_before filled = subst (λ z. Decided (Holds frame z)) (sym is.1) (decided_overflow is.0 a b frame limit a_before b_before filled)
+pub predicate_decided : (q : Pred) (frame : Frame) → AreReady frame q → IsDecided (Holds frame q)
+predicate_decided (Nonzero x) frame k = nonzero_decided x frame k
+predicate_decided (NoOver o bits a b) frame k = overflow_decided o bits a b frame k.0 k.1
 
 -- the first that doesn't hold
 pub record Fails (frame : Frame) (list : List Asked) : Type 0 where
@@ -88,7 +85,7 @@ pub record Fails (frame : Frame) (list : List Asked) : Type 0 where
   pub fails : Holds frame first.1 → ⊥
 
 -- all hold, or there is a first that doesn't
-pub checked : (frame : Frame) (list : List Asked) → ((a : Asked) → In a list → Decided (Holds frame a.1)) → AllHold frame list ⊎ Fails frame list
+pub checked : (frame : Frame) (list : List Asked) → ((a : Asked) → Has list a → IsDecided (Holds frame a.1)) → AllHold frame list ⊎ Fails frame list
 checked frame [] decided = inl (All-nil (λ (a : Asked). Holds frame a.1))
 checked frame (a ∷ list) decided =
     elim (decided a (inl refl)) [
@@ -109,7 +106,7 @@ checked frame (a ∷ list) decided =
     ]
 
 -- an operation of which all obligations hold has a result
-pub result_there : (o : Op) (a b : Opnd) (frame : Frame) (v w : ℤ) → is_arithmetic o ≡ true → operand_value frame b ≡ Some (number w) → ((q : Pred) → In q (asks o a b) → Holds frame q) → (x : ℤ) × IsResult o v w x
+pub result_there : (o : Op) (a b : Opnd) (frame : Frame) (v w : ℤ) → is_arithmetic o ≡ true → operand_value frame b ≡ Some (number w) → ((q : Pred) → Has (asks o a b) q → Holds frame q) → (x : ℤ) × IsResult o v w x
 result_there op.Add a b frame v w h is all = (v +ℤ w, refl)
 result_there op.Sub a b frame v w h is all = (v -ℤ w, refl)
 result_there op.Mul a b frame v w h is all = (v *ℤ w, refl)
