@@ -118,6 +118,7 @@ pub fn file_has_one_reading()
 #[cfg(test)]
 mod tests {
     use super::*;
+    use crate::expression::Expression;
 
     /// How many definitions are read of the bytes, and the line of the last one's `return`.
     fn reading(alloc: Global, bytes: &[u8]) -> Result<Option<(usize, u32)>, Memory> {
@@ -245,6 +246,149 @@ mod tests {
         for (bytes, expected) in rows {
             let found = reading(rt.alloc(), bytes);
             assert!(rt; matches!(found, Ok(found) if found == expected));
+        }
+    }
+
+    /// The line of the outermost operator or call; 0 for parentheses; 100 and more for a parameter, 200 and more for
+    /// a constant.
+    fn top(value: &Expression) -> u32 {
+        match value {
+            Expression::Parameter(n) => u32::wrapping_add(100, *n),
+            Expression::Constant(n) => u32::wrapping_add(200, *n),
+            Expression::Paren(_) => 0,
+            Expression::Call(_, line, _) | Expression::Binary(_, line, _, _) => *line,
+        }
+    }
+
+    /// The top of what is read of an expression whose bytes stand each on a line of its own, over the parameters `a`
+    /// and `b` and functions without parameters (`f`), with one (`g` and `a`) and with two (`h`).
+    fn expression(alloc: Global, bytes: &[u8]) -> Result<Option<u32>, Memory> {
+        let mut file = Vec::new(alloc);
+        file.extend_from_slice(b"int f(void){return 1;}int g(int x){return x;}")?;
+        file.extend_from_slice(b"int h(int x,int y){return x;}int a(int x){return x;}")?;
+        file.extend_from_slice(b"int t(int a,int b){return ")?;
+        for byte in bytes {
+            file.extend_from_slice(&[*byte, b'\n'])?;
+        }
+        file.extend_from_slice(b";}")?;
+        if file.len() > 1 << 24 {
+            return Ok(None);
+        }
+        let Some(definitions) = read_definitions(alloc, &file)? else {
+            return Ok(None);
+        };
+        match definitions.as_slice().last() {
+            Some(definition) => Ok(Some(top(&definition.value))),
+            None => Ok(None),
+        }
+    }
+
+    /// So many times the first bytes, then the second, then as often the third.
+    fn nested(
+        alloc: Global,
+        times: usize,
+        before: &[u8],
+        within: &[u8],
+        behind: &[u8],
+    ) -> Result<Vec<u8>, Memory> {
+        let mut bytes = Vec::new(alloc);
+        for _ in 0..times {
+            bytes.extend_from_slice(before)?;
+        }
+        bytes.extend_from_slice(within)?;
+        for _ in 0..times {
+            bytes.extend_from_slice(behind)?;
+        }
+        Ok(bytes)
+    }
+
+    #[test]
+    fn reads_expressions(rt: HostRuntime) {
+        let rows: [(&[u8], Option<u32>); 20] = [
+            (b"a", Some(100)),
+            (b"b", Some(101)),
+            (b"7", Some(207)),
+            (b"(a)", Some(0)),
+            (b"a-b-1", Some(4)),
+            (b"a/b*1", Some(4)),
+            (b"a+b*2", Some(2)),
+            (b"a%b-2", Some(4)),
+            (b"a*(b+2)", Some(2)),
+            (b"(a+b)*2-1/a", Some(8)),
+            (b"", None),
+            (b"()", None),
+            (b"c", None),
+            (b"a+", None),
+            (b"+a", None),
+            (b"ab", None),
+            (b"(a", None),
+            (b"a)", None),
+            (b"a,b", None),
+            (b"a+c", None),
+        ];
+        for (bytes, want) in rows {
+            assert_eq!(rt; expression(rt.alloc(), bytes).expect(&rt, "memory"), want);
+        }
+    }
+
+    #[test]
+    fn reads_calls(rt: HostRuntime) {
+        let rows: [(&[u8], Option<u32>); 30] = [
+            (b"f()", Some(2)),
+            (b"g(a)", Some(2)),
+            (b"h(a,b)", Some(2)),
+            (b"h(1,g(b))", Some(2)),
+            (b"h(f(),f())", Some(2)),
+            (b"g(a+b)*2", Some(7)),
+            (b"(g(a))", Some(0)),
+            (b"2-g(a)", Some(2)),
+            (b"f", None),
+            (b"g", None),
+            (b"g()", None),
+            (b"f(a)", None),
+            (b"g(a,b)", None),
+            (b"h(a)", None),
+            (b"h(a,b,1)", None),
+            (b"h(,)", None),
+            (b"h(a,)", None),
+            (b"h(,b)", None),
+            (b"g(a,)", None),
+            (b"f(,)", None),
+            (b"h(a b)", None),
+            (b"g(a", None),
+            (b"f(", None),
+            (b"g(f)", None),
+            (b"(g)(a)", None),
+            (b"g(a)(b)", None),
+            (b"7(a)", None),
+            (b"c(a)", None),
+            (b"a(b)", None),
+            (b"a(1)+b", None),
+        ];
+        for (bytes, want) in rows {
+            assert_eq!(rt; expression(rt.alloc(), bytes).expect(&rt, "memory"), want);
+        }
+    }
+
+    #[test]
+    fn keeps_the_limit(rt: HostRuntime) {
+        let rows: [(usize, &[u8], &[u8], &[u8], Option<u32>); 12] = [
+            (255, b"(", b"a", b")", Some(0)),
+            (256, b"(", b"a", b")", None),
+            (255, b"a+", b"a", b"", Some(510)),
+            (256, b"a+", b"a", b"", None),
+            (255, b"g(", b"a", b")", Some(2)),
+            (256, b"g(", b"a", b")", None),
+            (254, b"g(", b"f()", b")", Some(2)),
+            (255, b"g(", b"f()", b")", None),
+            (255, b"h(1,", b"a", b")", Some(2)),
+            (256, b"h(1,", b"a", b")", None),
+            (1 << 16, b"(", b"a", b"", None),
+            (1 << 16, b"g(", b"a", b"", None),
+        ];
+        for (times, before, within, behind, want) in rows {
+            let bytes = nested(rt.alloc(), times, before, within, behind).expect(&rt, "memory");
+            assert_eq!(rt; expression(rt.alloc(), &bytes).expect(&rt, "memory"), want);
         }
     }
 }
