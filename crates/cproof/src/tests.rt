@@ -1,7 +1,7 @@
 use po_app::{Status, run};
 use po_base::{List, Text};
 use po_io::{MemFiles, MemSink};
-use std::alloc::Global;
+use std::alloc::{AllocError, Global};
 use std::process::Abort;
 
 /// Room that is ample for each text here.

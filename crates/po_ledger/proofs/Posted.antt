@@ -1,5 +1,5 @@
 -- Posting a predicate for an item of a ticket that fits.
-use Rattle.std.proofs.Common.{◌≡◌, ◌⊎◌, ℕ, ◌-◌, ◌<◌, ◌≤◌, List, [], ◌∷◌, ◌++◌, length, map, take, refl, sym, ◌∙◌, ap, subst, inl, inr}
+use Rattle.std.proofs.Common.{◌≡◌, ◌⊎◌, ℕ, ◌<◌, ◌≤◌, List, [], ◌∷◌, ◌++◌, length, map, take, refl, sym, ◌∙◌, ap, subst, inl, inr}
 use Rattle.std.specs.Prelude.{false, Option, slice_get}
 use Rattle.std.specs.List.{Contains}
 use Rattle.std.proofs.lemmas.List.{take_at}
@@ -144,8 +144,8 @@ module _ {P N T : Type 0} (b of_book : Book P N T) (l : LedgerView P N) (shelves
 pub cut_back : {X : Type 0} (old long cut : List X) (n : ℕ) → n ≡ length old → (more : List X) × (long ≡ old ++ more) → cut ≡ take n long → cut ≡ old
 cut_back {X} old long cut n l h is = is ∙ (ap (λ (z : List X). take n z) h.1 ∙ take_at old h.0 n (sym l))
 
-pub same_view : {P N : Type 0} (marks marks' : List (Obl P × Mark P N)) (hands : List (Option (Hand P))) (assumed assumed' : List (FunNo × P)) (journal journal' : List (Event P N)) (cap len cap' len' : ℕ) → marks' ≡ marks → assumed' ≡ assumed → journal' ≡ journal → cap' - len' ≡ cap - len → view_of marks' hands assumed' journal' cap' len' ≡ view_of marks hands assumed journal cap len
-same_view {P} {N} marks marks' hands assumed assumed' journal journal' cap len cap' len' qm qa qj qs i = record { state = record { marks = qm i; hands = hands; assumed = qa i }; journal = qj i; spare = qs i }
+pub same_view : {P N : Type 0} (marks marks' : List (Obl P × Mark P N)) (hands : List (Option (Hand P))) (assumed assumed' : List (FunNo × P)) (journal journal' : List (Event P N)) (spare spare' : ℕ) → marks' ≡ marks → assumed' ≡ assumed → journal' ≡ journal → spare' ≡ spare → view_of marks' hands assumed' journal' spare' ≡ view_of marks hands assumed journal spare
+same_view {P} {N} marks marks' hands assumed assumed' journal journal' spare spare' qm qa qj qs i = record { state = record { marks = qm i; hands = hands; assumed = qa i }; journal = qj i; spare = qs i }
 
 pub kept_view : {P N T : Type 0} (b of_book : Book P N T) (l m : LedgerView P N) (shelves : List (List (FunNo × T))) → m ≡ l → IsKept b of_book l shelves → IsKept b of_book m shelves
 kept_view {P} {N} b of_book l m shelves q k = subst (λ (z : LedgerView P N). IsKept b of_book z shelves) (sym q) k

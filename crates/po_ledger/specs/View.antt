@@ -1,5 +1,5 @@
 -- What contracts see of a ledger and of a ticket, and what is true of each ledger.
-use Rattle.std.specs.Prelude.{ℕ, ◌≡◌, ◌+◌, ◌-◌, ◌≤◌, ◌<◌, ◌↔◌, List, Bool, length, map, Option, Some, slice_get, IsTrue}
+use Rattle.std.specs.Prelude.{ℕ, ◌≡◌, ◌+◌, ◌≤◌, ◌<◌, ◌↔◌, List, Bool, length, map, Option, Some, slice_get, IsTrue}
 use Rattle.std.specs.List.{Contains}
 use Rattle.po_base.specs.declared.numbers.FileNo.{FileNo}
 use Rattle.po_base.specs.declared.numbers.FunNo.{FunNo}
@@ -74,5 +74,5 @@ pub record IsKept {P N T : Type 0} (named of_book : Book P N T) (l : LedgerView 
   pub shelved : (at : ℕ) (tables : List (FunNo × T)) → slice_get shelves at ≡ Some tables → AreTables named tables
 
 -- what a ledger's lists show
-abbrev pub view_of : {P N : Type 0} → List (Obl P × Mark P N) → List (Option (Hand P)) → List (FunNo × P) → List (Event P N) → ℕ → ℕ → LedgerView P N
-view_of marks hands assumed journal capacity len = record { state = record { marks = marks; hands = hands; assumed = assumed }; journal = journal; spare = capacity - len }
+abbrev pub view_of : {P N : Type 0} → List (Obl P × Mark P N) → List (Option (Hand P)) → List (FunNo × P) → List (Event P N) → ℕ → LedgerView P N
+view_of marks hands assumed journal spare = record { state = record { marks = marks; hands = hands; assumed = assumed }; journal = journal; spare = spare }

@@ -11,12 +11,13 @@ ghost use Rattle.po_ledger.specs.Answers.{Answers, Reports};
 ghost use Rattle.po_ledger.specs.View.{Fits, IsLedger};
 
 use crate::fitting::{hand_at, is_hand_of};
+use crate::log::{Log, append, into_events, make_room, no_events};
 use crate::marks::{Marks, Remark, change, first_marks, settle_mark};
 use crate::naming::Naming;
 use crate::next::{Next, ReportFail};
 use crate::parts::{
-    all_open, any_held, append, empty_shelves, extend, is_held, make_room, no_hands, set_hand,
-    swap_shelf, takeable, untaken_of, untaken_places,
+    all_open, any_held, empty_shelves, extend, is_held, no_hands, set_hand, swap_shelf, takeable,
+    untaken_of, untaken_places,
 };
 use crate::report::{
     ascending_assumptions, ascending_lines, held_count, is_some_left, untaken_count,
@@ -42,19 +43,18 @@ pub struct Ledger<'r, R: Rulebook, J: Naming<R::Pred, R::Rule, R::Table>> {
     hands: Vec<Option<Hand<R::Pred>>>,
     assumed: Vec<(FunNo, R::Pred)>,
     shelves: Vec<List<(FunNo, R::Table)>>,
-    journal: Vec<Event<R::Pred, R::Rule>>,
+    journal: Log<R::Pred, R::Rule>,
     named: PhantomData<J>,
 }
 
 impl<'r, R: Rulebook, J: Naming<R::Pred, R::Rule, R::Table>> Model for Ledger<'r, R, J> {
-    ghost use Rattle.std.specs.Vec.{vec_len, vec_capacity};
     ghost use Rattle.po_ledger.specs.View.{LedgerView, view_of, IsKept};
 
     ghost Value = { LedgerView R.Pred R.Rule };
 
-    ghost view = { λ l. view_of l.marks.items l.hands.items l.assumed.items l.journal.items (vec_capacity l.journal) (vec_len l.journal) };
+    ghost view = { λ l. view_of l.marks.items l.hands.items l.assumed.items l.journal.items l.journal.spare };
 
-    ghost invariant = { λ l. IsKept J.book (R.meaning l.book.now) (view_of l.marks.items l.hands.items l.assumed.items l.journal.items (vec_capacity l.journal) (vec_len l.journal)) l.shelves.items };
+    ghost invariant = { λ l. IsKept J.book (R.meaning l.book.now) (view_of l.marks.items l.hands.items l.assumed.items l.journal.items l.journal.spare) l.shelves.items };
 }
 
 impl<'r, R: Rulebook, J: Naming<R::Pred, R::Rule, R::Table>> Ledger<'r, R, J> {
@@ -73,7 +73,7 @@ impl<'r, R: Rulebook, J: Naming<R::Pred, R::Rule, R::Table>> Ledger<'r, R, J> {
             hands,
             assumed: Vec::new(alloc),
             shelves,
-            journal: Vec::new(alloc),
+            journal: no_events(alloc),
             named: PhantomData,
         })
     }
@@ -117,7 +117,7 @@ impl<'r, R: Rulebook, J: Naming<R::Pred, R::Rule, R::Table>> Ledger<'r, R, J> {
         ensures { result ≡ self.entry.journal }
     {
         let Ledger { journal, .. } = self;
-        List::from_vec(journal)
+        into_events(journal)
     }
 
     /// Gives a worker all that is untaken in some file, which it holds from then on; or says that it has to wait,

@@ -6,6 +6,7 @@
 mod drain;
 mod fitting;
 mod ledger;
+mod log;
 mod marks;
 mod naming;
 mod next;

@@ -1,6 +1,5 @@
 ghost use Rattle.std.specs.Prelude.{◌≡◌, ◌≤◌, ◌<◌, ◌+◌, ◌-◌, ◌++◌, ◌↔◌, ◌⊎◌, [], ◌∷◌, ℕ, List, true, false, length, map, replicate, slice_get, slice_set, Option, Some, None, IsTrue, IfOk, OnOk, OnErr, IfSome, IfNone, IsSome};
 ghost use Rattle.std.specs.List.{Contains};
-ghost use Rattle.std.specs.Vec.{vec_len, vec_capacity};
 ghost use Rattle.po_base.specs.declared.numbers.FileNo.{FileNo};
 ghost use Rattle.po_base.specs.declared.numbers.FunNo.{FunNo};
 ghost use Rattle.po_core.specs.Book.{file_of_obl};
@@ -9,9 +8,10 @@ ghost use Rattle.po_core.specs.declared.event.Mark.TheVariants.{Untaken};
 ghost use Rattle.po_core.specs.declared.obl.Obl.{Obl};
 ghost use Rattle.po_ledger.specs.Parts.{HasKey, AddsEach, TakesFrom, HandAt, NoneTakeable, PushesUntaken, AddsItem, supports_of};
 
+use crate::log::{Log, make_room};
 use crate::marks::{Marks, add_supports, is_same_pred};
 use po_base::{FileNo, FunNo, List, Memory, NodeNo};
-use po_core::{Event, Hand, Mark, Obl, Rulebook};
+use po_core::{Hand, Mark, Obl, Rulebook};
 use std::alloc::Global;
 use std::mem;
 
@@ -42,29 +42,6 @@ pub(crate) fn any_held<P: Copy>(hands: &[Option<Hand<P>>]) -> bool
         }
     }
     false
-}
-
-/// Makes room in a journal for so many more events than it has room for. After `Memory` there is as much room
-/// as before.
-pub(crate) fn make_room<P: Copy, N: Copy>(
-    journal: &mut Vec<Event<P, N>>,
-    more: usize,
-    besides: usize,
-) -> Result<(), Memory>
-    ensures items { journal.new.items ≡ journal.old.items }
-    ensures ok { OnOk result ((vec_capacity journal.old - vec_len journal.old) + (more + besides) ≤ vec_capacity journal.new - vec_len journal.new) }
-    ensures err { OnErr result (vec_capacity journal.new - vec_len journal.new ≡ vec_capacity journal.old - vec_len journal.old) }
-{
-    let spare = journal.capacity().saturating_sub(journal.len());
-    let wanted = match spare.checked_add(more) {
-        Some(sum) => match sum.checked_add(besides) {
-            Some(wanted) => wanted,
-            None => return Err(Memory),
-        },
-        None => return Err(Memory),
-    };
-    journal.reserve(wanted)?;
-    Ok(())
 }
 
 /// The file of an obligation, where it is untaken and its file isn't held.
@@ -249,7 +226,7 @@ pub(crate) fn extend<R: Rulebook>(
     book: &R,
     marks: &mut Marks<R::Pred, R::Rule>,
     assumed: &mut Vec<(FunNo, R::Pred)>,
-    journal: &mut Vec<Event<R::Pred, R::Rule>>,
+    journal: &mut Log<R::Pred, R::Rule>,
     sites: &[(FunNo, NodeNo)],
     f: FunNo,
     q: R::Pred,
@@ -257,8 +234,8 @@ pub(crate) fn extend<R: Rulebook>(
     ensures marks { OnOk result (AddsEach (supports_of q sites.now) marks.old.items marks.new.items) }
     ensures assumed { OnOk result (AddsItem assumed.old.items assumed.new.items (f, q)) }
     ensures journal { journal.new.items ≡ journal.old.items }
-    ensures room { OnOk result ((vec_capacity journal.old - vec_len journal.old) + 1 ≤ vec_capacity journal.new - vec_len journal.new) }
-    ensures no_room { OnErr result (vec_capacity journal.new - vec_len journal.new ≡ vec_capacity journal.old - vec_len journal.old) }
+    ensures room { OnOk result (journal.new.spare ≡ journal.old.spare + 1) }
+    ensures no_room { OnErr result (journal.new.spare ≡ journal.old.spare) }
     ensures marks_front { (more : List (Obl R.Pred × Mark R.Pred R.Rule)) × (marks.new.items ≡ marks.old.items ++ more) }
     ensures assumed_front { (more : List (FunNo × R.Pred)) × (assumed.new.items ≡ assumed.old.items ++ more) }
 {
@@ -296,15 +273,6 @@ pub(crate) fn empty_shelves<T: Drop>(
         }
     }
     Ok(shelves)
-}
-
-/// Puts an event to the end of a journal that has room for it.
-pub(crate) fn append<P: Copy, N: Copy>(journal: &mut Vec<Event<P, N>>, event: Event<P, N>)
-    requires { 0 < vec_capacity journal.old - vec_len journal.old }
-    ensures items { journal.new.items ≡ journal.old.items ++ event ∷ [] }
-    ensures room { vec_capacity journal.old - vec_len journal.old ≤ (vec_capacity journal.new - vec_len journal.new) + 1 }
-{
-    journal.push_reserved(event);
 }
 
 /// Says who holds a file.

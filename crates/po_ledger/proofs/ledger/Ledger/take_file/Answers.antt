@@ -37,4 +37,4 @@ pub returns-clause-ok : goal.returns-clause-ok
 returns-clause-ok g c = hands_out _ _ _ (g.met.R.Rulebook.lawful c.self.inside.book.now) _ _ c.self.invariant c.legal_lists_are_orderly.ensures _ c.self.view_is c.args.worker c.args.file c.requires c.in_ok-items.items (rw c.as_slice.ensures.value at c.in_ok-items.ensures) _ c.change.ensures c.set_hand.ensures refl (c.append.ensures.items ∙ ap (λ z. z ++ Take c.args.worker c.args.file ∷ []) c.in_ok-make_room.ensures.items) (omega (arith, c.len.ensures, c.in_ok-make_room.ensures.ok, c.append.ensures.room)) c.in_ok-hand.hand c.swap_shelf-tables.result (c.in_ok-hand.ensures ∙ ap (map (λ o. (o, false))) c.as_slice-2.ensures)
 
 pub returns-in_err-make_room-clause-err : goal.returns-in_err-make_room-clause-err
-returns-in_err-make_room-clause-err g c = on_err _ (same_view c.self.inside.marks.items c.self.inside.marks.items c.self.inside.hands.items c.self.inside.assumed.items c.self.inside.assumed.items c.self.inside.journal.items c.make_room.new.journal.items _ _ _ _ refl refl c.in_err-make_room.ensures.items c.in_err-make_room.ensures.err ∙ c.self.view_is)
+returns-in_err-make_room-clause-err g c = on_err _ (same_view c.self.inside.marks.items c.self.inside.marks.items c.self.inside.hands.items c.self.inside.assumed.items c.self.inside.assumed.items c.self.inside.journal.items c.make_room.new.journal.items _ _ refl refl c.in_err-make_room.ensures.items c.in_err-make_room.ensures.err ∙ c.self.view_is)
