@@ -14,6 +14,8 @@ mod rule;
 mod solve;
 mod status;
 mod tally;
+#[cfg(test)]
+mod tests;
 mod top;
 mod verdict;
 mod words;
