@@ -14,3 +14,4 @@ mod Products
 mod Small
 mod Gains
 mod Files
+mod Exactly

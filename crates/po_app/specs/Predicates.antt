@@ -45,3 +45,16 @@ SecondMayBe (Some p) w = MayBe p w
 abbrev pub HoldsForAll : Pred → Type 0
 HoldsForAll (Nonzero x) = (v : ℤ) → MayBe x v → v ≢ pos 0
 HoldsForAll (NoOver op bits a b) = (v w : ℤ) → MayBe a v → SecondMayBe b w → Fits op bits v w
+
+-- the place has a number
+abbrev pub HasANumber : Place → Type 0
+HasANumber p = p.lo ≤ℤ p.hi
+
+abbrev pub SecondHasANumber : Option Place → Type 0
+SecondHasANumber None = Unit {0}
+SecondHasANumber (Some p) = HasANumber p
+
+-- each place of the predicate has a number
+abbrev pub HaveNumbers : Pred → Type 0
+HaveNumbers (Nonzero x) = HasANumber x
+HaveNumbers (NoOver op bits a b) = HasANumber a × SecondHasANumber b

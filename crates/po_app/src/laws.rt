@@ -1,4 +1,4 @@
-ghost use Rattle.std.specs.Prelude.{ℕ, ◌≡◌, List, [], ◌∷◌, All, Some, length, slice_get};
+ghost use Rattle.std.specs.Prelude.{ℕ, ◌≡◌, ◌↔◌, List, [], ◌∷◌, All, Some, true, length, slice_get};
 ghost use Rattle.po_straight.specs.declared.definition.Definition.{Definition as DefinitionOf};
 ghost use Rattle.po_straight.specs.Definitions.{IsFile};
 ghost use Rattle.po_ir.specs.declared.project.Function.{Function as FunctionOf};
@@ -7,11 +7,18 @@ ghost use Rattle.po_core.specs.declared.report.Report.{Report as ReportOf};
 ghost use Rattle.po_pred.specs.declared.pred.Pred.{Pred as PredOf};
 ghost use Rattle.po_app.specs.declared.rule.Rule.{Rule as RuleOf};
 ghost use Rattle.po_app.specs.declared.status.Status.{Status as StatusOf};
+ghost use Rattle.po_app.specs.Predicates.{HoldsForAll, HaveNumbers};
+ghost use Rattle.po_app.specs.Discharge.{is_closed};
 ghost use Rattle.po_app.specs.Lowering.{IsProject};
 ghost use Rattle.po_app.specs.Outcome.{IsReported};
 ghost use Rattle.po_app.specs.Closed.{IsReport, IsClosedReport};
 ghost use Rattle.po_app.specs.Meaning.{Value, State, start_frame, Run, GoesOn};
 ghost use Rattle.po_app.specs.Sound.{IsInt, Meets, Starts, Sound};
+
+/// A predicate whose places have numbers is closed by its ranges exactly where it holds for all of them.
+pub fn closed_where_all_hold()
+    ensures { (q : PredOf) → HaveNumbers q → (is_closed q ≡ true) ↔ HoldsForAll q }
+{}
 
 /// A report of a served file that is closed under the rules is sound, whether or not it is the least: in every run of
 /// any number of steps, from any call whose arguments meet what the report assumes, the obligation that is violated
