@@ -1,5 +1,3 @@
-mod Heights
-mod Operations
 mod Lowers
 mod Each
 mod Numbering

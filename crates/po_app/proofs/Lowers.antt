@@ -19,8 +19,8 @@ use Rattle.po_straight.specs.declared.expression.Expression.{Expression}
 use Rattle.po_straight.specs.declared.expression.Expression.TheVariants as e
 use Rattle.po_straight.specs.Expressions.{height, greatest}
 use Rattle.po_straight.specs.Definitions.{operations}
-use Rattle.po_app.proofs.Heights.{height-Paren, height-Call, height-Binary, height_at}
-use Rattle.po_app.proofs.Operations.{operations-Parameter, operations-Constant, operations-Paren, operations-Call, operations-Binary, sum_mapped}
+use Rattle.po_straight.specs.Heights.{height-Paren, height-Call, height-Binary, height_at}
+use Rattle.po_straight.specs.Operations.{operations-Parameter, operations-Constant, operations-Paren, operations-Call, operations-Binary, sum_mapped}
 use Rattle.po_app.specs.Lowering.{Lowers, parameter, constant, paren, binary, call, LowersAll, none, more, node_at, register, int, IsFunction}
 use Rattle.po_app.specs.Lowered.{Appends, AppendsAll}
 use Rattle.po_app.specs.Ranges.{IsSmallInstr, IsSmallOperand}

@@ -11,7 +11,7 @@ use Rattle.po_straight.specs.Expressions.{height}
 use Rattle.po_straight.specs.Reading.{Reads, Operand, parameter, constant, paren, call, Arguments, without, with, Items, final, further}
 use Rattle.po_straight.specs.Outline.{Begins}
 use Rattle.po_straight.specs.Places.{height_of_call, AreFound}
-use Rattle.po_straight.proofs.Heights.{height-Call}
+use Rattle.po_straight.specs.Heights.{height-Call}
 use Rattle.po_straight.proofs.Rules.{at_place, stands_at}
 use Rattle.po_straight.proofs.Readings.{there, name_at, one_function, reads_same, arguments_same}
 

@@ -7,7 +7,7 @@ use Rattle.po_straight.specs.declared.expression.Expression.{Expression}
 use Rattle.po_straight.specs.Scopes.{Scope}
 use Rattle.po_straight.specs.Expressions.{Prints, parameter, constant, paren, call, binary, PrintsAll, empty, single, comma, IsExpression}
 use Rattle.po_straight.specs.Definitions.{operations}
-use Rattle.po_straight.proofs.Operations.{operations-Parameter, operations-Constant, operations-Paren, operations-Call, operations-Binary}
+use Rattle.po_straight.specs.Operations.{operations-Parameter, operations-Constant, operations-Paren, operations-Call, operations-Binary}
 
 mutual
   few_operations : {scope : Scope} {m : ℕ} {x : Expression} {xs : List Lexeme} → Prints scope m x xs → operations x < length xs

@@ -10,8 +10,6 @@ mod Following
 mod Fronts
 mod Placing
 mod Signing
-pub mod Heights
-pub mod Operations
 pub mod Few
 pub mod Readings
 pub mod Sound

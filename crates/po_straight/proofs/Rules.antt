@@ -14,7 +14,7 @@ use Rattle.po_straight.specs.Expressions.{IsOperator, height, Prints, IsExpressi
 use Rattle.po_straight.specs.Reading.{GoesOn, Reads, begun, Operand, parameter, constant, paren, call, Climbs, stop, more}
 use Rattle.po_straight.specs.Outline.{Begins}
 use Rattle.po_straight.specs.Places.{GoesOnBy, Closed, close}
-use Rattle.po_straight.proofs.Heights.{height-Parameter, height-Constant, height-Paren, height-Call, height-Binary}
+use Rattle.po_straight.specs.Heights.{height-Parameter, height-Constant, height-Paren, height-Call, height-Binary}
 use Rattle.po_straight.proofs.Readings.{one_operator, reads_same, operand_same}
 use Rattle.po_straight.proofs.Sound.{reads_sound}
 use Rattle.po_straight.proofs.Single.{reads_whole}

@@ -2,7 +2,9 @@ pub mod Spelling
 pub mod Distinct
 pub mod Scopes
 pub mod Expressions
+pub mod Heights
 pub mod Definitions
+pub mod Operations
 pub mod Lexing
 pub mod Named
 pub mod Reading

@@ -5,7 +5,7 @@ use Rattle.po_straight.specs.declared.expression.Expression.TheVariants as e
 use Rattle.po_straight.specs.Expressions.{height}
 use Rattle.po_straight.specs.Reading.{Operand, parameter, constant, stop, without}
 use Rattle.po_straight.specs.Places.{height_of_call}
-use Rattle.po_straight.proofs.Heights.{height-Parameter, height-Constant, height-Paren, height-Call, height-Binary}
+use Rattle.po_straight.specs.Heights.{height-Parameter, height-Constant, height-Paren, height-Call, height-Binary}
 use Rattle.po_straight.proofs.Rules.{at_place, low_level, starts, steps, too_high, no_right, no_operand, none_at_end, none_flat, none_begun, none_closed, found_closed, none_unclosed, is_closed, stands_at}
 use Rattle.po_straight.proofs.Calls.{none_named, none_open, none_arguments, none_fitting, is_call, height_push, are_arguments, items_start, items_more, items_end, items_stuck, items_unparted}
 use Rattle.po_straight.proofs.read_expression.+reader.Goals as goal

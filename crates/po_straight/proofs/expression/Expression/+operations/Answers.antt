@@ -6,8 +6,8 @@ use Rattle.po_straight.specs.declared.expression.Expression.{Expression}
 use Rattle.po_straight.specs.declared.expression.Expression.TheVariants as e
 use Rattle.po_straight.specs.Expressions.{height}
 use Rattle.po_straight.specs.Definitions.{operations}
-use Rattle.po_straight.proofs.Heights.{height-Paren, height-Call, height-Binary, height_at}
-use Rattle.po_straight.proofs.Operations.{operations-Parameter, operations-Constant, operations-Paren, operations-Call, operations-Binary, sum_mapped}
+use Rattle.po_straight.specs.Heights.{height-Paren, height-Call, height-Binary, height_at}
+use Rattle.po_straight.specs.Operations.{operations-Parameter, operations-Constant, operations-Paren, operations-Call, operations-Binary, sum_mapped}
 use Rattle.po_straight.proofs.expression.Expression.+operations.Goals as goal
 
 -- parentheses are higher than what they enclose, and have its operations
