@@ -139,12 +139,7 @@ fn find_table<T: Drop>(tables: &List<(FunNo, T)>, f: FunNo) -> Result<usize, usi
 }
 
 /// Puts an item at a place, before those from there on. After `Memory` nothing has changed.
-fn insert_at<T: Drop>(
-    alloc: Global,
-    items: &mut List<T>,
-    at: usize,
-    item: T,
-) -> Result<(), Memory>
+fn insert_at<T: Drop>(alloc: Global, items: &mut List<T>, at: usize, item: T) -> Result<(), Memory>
     requires { at ≤ length items.old }
     ensures ok { OnOk result (items.new ≡ insert items.old at item) }
     ensures err { OnErr result (items.new ≡ items.old) }
