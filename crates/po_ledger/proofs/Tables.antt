@@ -1,12 +1,11 @@
 -- Tables of functions.
-use Rattle.std.proofs.Common.{◌≡◌, ℕ, ◌<◌, List, [], ◌∷◌, ◌++◌, length, get_or, refl, sym, ◌∙◌, ap, subst, inl, inr}
+use Rattle.std.proofs.Common.{◌≡◌, ◌⊎◌, ℕ, zero, suc, ◌<◌, ◌≤◌, List, [], ◌∷◌, length, insert, get_or, refl, sym, ◌∙◌, ap, subst, inl, inr, arith}
 use Rattle.std.specs.Prelude.{Option, Some, slice_get}
 use Rattle.std.specs.List.{Contains}
 use Rattle.std.proofs.lemmas.Option.{slice_get_read, slice_get_within, same_Some}
-use Rattle.std.proofs.lemmas.List.Elements.{Contains-push_cases}
 use Rattle.po_base.specs.declared.numbers.FunNo.{FunNo}
 use Rattle.po_core.specs.Book.{Book}
-use Rattle.po_core.specs.Lists.{contains}
+use Rattle.po_core.specs.Lists.{Has, has, contains}
 use Rattle.po_ledger.specs.View.{AreTables}
 use Rattle.po_ledger.proofs.Settled.{got_in}
 
@@ -15,17 +14,24 @@ table_read {T} tables all at e f same l is q =
     let here : slice_get tables at ≡ Some e = slice_get_read tables (length tables) at e refl l (is ∙ ap (λ (z : List (FunNo × T)). get_or z at e) same) in
     (e.1, here ∙ ap (λ (z : FunNo). let y : Option (FunNo × T) = Some (z, e.1) in y) q)
 
-get_last : {X : Type 0} (xs : List X) (x : X) → slice_get (xs ++ x ∷ []) (length xs) ≡ Some x
-get_last [] x = refl
-get_last (y ∷ ys) x = get_last ys x
+insert_got : {X : Type 0} (xs : List X) (i : ℕ) (x : X) → i ≤ length xs → slice_get (insert xs i x) i ≡ Some x
+insert_got xs zero x l = refl
+insert_got [] (suc i) x l = absurd (omega arith)
+insert_got (y ∷ ys) (suc i) x l = insert_got ys i x (omega arith)
 
-pub table_pushed : {T : Type 0} (old new : List (FunNo × T)) (at : ℕ) (f : FunNo) (table : T) → new ≡ old ++ (f, table) ∷ [] → at ≡ length old → (t : T) × (slice_get new at ≡ Some (f, t))
-table_pushed {T} old new at f table is q = (table, ap (λ (z : List (FunNo × T)). slice_get z at) is ∙ (ap (λ (j : ℕ). slice_get (old ++ (f, table) ∷ []) j) q ∙ get_last old (f, table)))
+insert_cases : {X : Type 0} (xs : List X) (i : ℕ) (x z : X) → Has (insert xs i x) z → (x ≡ z) ⊎ Has xs z
+insert_cases xs zero x z h = h
+insert_cases [] (suc i) x z h = h
+insert_cases (y ∷ ys) (suc i) x z (inl q) = inr (inl q)
+insert_cases (y ∷ ys) (suc i) x z (inr h) = elim (insert_cases ys i x z h) [ inl q ↦ inl q | inr k ↦ inr (inr k) ]
 
-pub tables_pushed : {P N T : Type 0} (b : Book P N T) (old new : List (FunNo × T)) (f : FunNo) (table : T) → AreTables b old → b.table_of f ≡ Some table → new ≡ old ++ (f, table) ∷ [] → AreTables b new
-tables_pushed {T = T} b old new f table right made is g t h = elim (Contains-push_cases old (f, table) (g, t) (subst (λ (z : List (FunNo × T)). Contains z (g, t)) is h)) [
-  | inl k ↦ right g t k
-  | inr q ↦ subst (λ (z : FunNo × T). b.table_of z.0 ≡ Some z.1) q made
+pub table_inserted : {T : Type 0} (old new : List (FunNo × T)) (at : ℕ) (f : FunNo) (table : T) → at ≤ length old → new ≡ insert old at (f, table) → (t : T) × (slice_get new at ≡ Some (f, t))
+table_inserted {T} old new at f table within is = (table, ap (λ (z : List (FunNo × T)). slice_get z at) is ∙ insert_got old at (f, table) within)
+
+pub tables_inserted : {P N T : Type 0} (b : Book P N T) (old new : List (FunNo × T)) (at : ℕ) (f : FunNo) (table : T) → AreTables b old → b.table_of f ≡ Some table → new ≡ insert old at (f, table) → AreTables b new
+tables_inserted {T = T} b old new at f table right made is g t h = elim (insert_cases old at (f, table) (g, t) (has _ (g, t) (subst (λ (z : List (FunNo × T)). Contains z (g, t)) is h))) [
+  | inl q ↦ subst (λ (z : FunNo × T). b.table_of z.0 ≡ Some z.1) q made
+  | inr k ↦ right g t (contains old (g, t) k)
 ]
 
 -- a table that is read at a place where one of the function stands

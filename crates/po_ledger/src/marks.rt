@@ -1,13 +1,17 @@
 ghost use Rattle.std.specs.Prelude.{◌≡◌, ◌++◌, ◌<◌, ◌↔◌, [], ◌∷◌, List, map, length, IsTrue, IfOk, IfSome, IfNone, OnOk, OnErr};
 ghost use Rattle.std.specs.List.{Contains};
 ghost use Rattle.po_core.specs.Core.{AreApart};
+ghost use Rattle.std.specs.declared.cmp.Ordering.TheVariants.{Greater};
+ghost use Rattle.po_core.specs.Order.{obl_cmp};
 ghost use Rattle.po_core.specs.declared.event.Mark.{Mark};
+ghost use Rattle.po_core.specs.declared.event.Mark.TheVariants.{Untaken};
 ghost use Rattle.po_core.specs.declared.obl.Obl.{Obl};
-ghost use Rattle.po_ledger.specs.Parts.{HasKey, AddsUntaken, AddsEach, IsMarkAfter, IsMarkAt, IsMeant, IsRemarked, old_mark, new_mark, primaries_below, primaries_of, supports_of};
+ghost use Rattle.po_ledger.specs.Parts.{HasKey, AddsUntaken, AddsEach, AreUpTo, IsAbove, IsMarkAfter, IsMarkAt, IsMeant, IsRemarked, old_mark, new_mark, primaries_below, primaries_of, supports_of};
 
 use po_base::{FileNo, FunNo, List, Memory, NodeNo};
 use po_core::{Cause, Mark, Obl, Rulebook, Verdict};
 use std::alloc::Global;
+use std::cmp::Ordering;
 
 /// Each known obligation with its mark, none twice.
 pub(crate) type Marks<P, N> = Vec<(Obl<P>, Mark<P, N>)>;
@@ -81,10 +85,7 @@ pub(crate) fn add<R: Rulebook>(
 {
     match mark_of(book, marks.as_slice(), &o) {
         Some(_) => Ok(()),
-        None => match marks.push((o, Mark::Untaken)) {
-            Ok(()) => Ok(()),
-            Err(_) => Err(Memory),
-        },
+        None => push_new(marks, o),
     }
 }
 
@@ -127,23 +128,79 @@ pub(crate) fn add_supports<R: Rulebook>(
     Ok(())
 }
 
+/// Whether an obligation comes after the greatest of others, in the order of obligations, or there is none of them.
+fn is_above<R: Rulebook>(book: &R, o: &Obl<R::Pred>, greatest: &Option<Obl<R::Pred>>) -> bool
+    ensures { IsTrue result ↔ IsAbove R.Pred.cmp o.now greatest.now }
+{
+    match greatest {
+        None => true,
+        Some(last) => is_greater(book, o, last),
+    }
+}
+
+/// Whether an obligation comes after another one.
+fn is_greater<R: Rulebook>(book: &R, o: &Obl<R::Pred>, last: &Obl<R::Pred>) -> bool
+    ensures { IsTrue result ↔ (obl_cmp R.Pred.cmp o.now last.now ≡ Greater) }
+{
+    let _book = book;
+    match o.cmp(last) {
+        Ordering::Greater => true,
+        _ => false,
+    }
+}
+
+/// Puts a new obligation to those that are known, untaken. After `Memory` nothing has changed.
+fn push_new<P: Copy, N: Copy>(marks: &mut Marks<P, N>, o: Obl<P>) -> Result<(), Memory>
+    ensures ok { OnOk result (marks.new.items ≡ marks.old.items ++ (o, Untaken) ∷ []) }
+    ensures err { OnErr result (marks.new.items ≡ marks.old.items) }
+{
+    match marks.push((o, Mark::Untaken)) {
+        Ok(()) => Ok(()),
+        Err(_) => Err(Memory),
+    }
+}
+
+/// Makes an obligation known and untaken, unless it is known, where `greatest` is at least each that is known. Time:
+/// constant where it comes after that, and else the number of known obligations.
+fn add_ascending<R: Rulebook>(
+    book: &R,
+    marks: &mut Marks<R::Pred, R::Rule>,
+    greatest: &mut Option<Obl<R::Pred>>,
+    o: Obl<R::Pred>,
+) -> Result<(), Memory>
+    requires { AreUpTo R.Pred.cmp marks.old.items greatest.old }
+    ensures added { OnOk result (AddsUntaken marks.old.items marks.new.items o) }
+    ensures greatest { OnOk result (AreUpTo R.Pred.cmp marks.new.items greatest.new) }
+{
+    if is_above(book, &o, greatest) {
+        push_new(marks, o)?;
+        *greatest = Some(o);
+        return Ok(());
+    }
+    add(book, marks, o)
+}
+
 /// Makes a function's own obligations known.
 fn add_primaries<R: Rulebook>(
     book: &R,
     marks: &mut Marks<R::Pred, R::Rule>,
+    greatest: &mut Option<Obl<R::Pred>>,
     f: FunNo,
     places: &[(NodeNo, u32)],
 ) -> Result<(), Memory>
-    requires { places.now ≡ (R.meaning book.now).primaries f }
-    ensures { OnOk result (AddsEach (primaries_of (R.meaning book.now) f) marks.old.items marks.new.items) }
+    requires places { places.now ≡ (R.meaning book.now).primaries f }
+    requires greatest { AreUpTo R.Pred.cmp marks.old.items greatest.old }
+    ensures added { OnOk result (AddsEach (primaries_of (R.meaning book.now) f) marks.old.items marks.new.items) }
+    ensures greatest { OnOk result (AreUpTo R.Pred.cmp marks.new.items greatest.new) }
 {
     for place in places {
-        add(book, marks, primary_at(f, place))?;
+        add_ascending(book, marks, greatest, primary_at(f, place))?;
     }
     Ok(())
 }
 
-/// All functions' own obligations, untaken.
+/// All functions' own obligations, untaken. Time: their number, where each comes after those before, in the order of
+/// obligations; for each that doesn't, that of all before.
 pub(crate) fn first_marks<R: Rulebook>(
     alloc: Global,
     book: &R,
@@ -151,10 +208,11 @@ pub(crate) fn first_marks<R: Rulebook>(
     ensures { IfOk result (λ marks. AddsEach (primaries_below (R.meaning book.now) (R.meaning book.now).functions) [] marks.items) }
 {
     let mut marks = Vec::new(alloc);
+    let mut greatest = None;
     for number in 0..book.functions() {
         let f = FunNo(number);
         let places = book.primaries(alloc, f)?;
-        add_primaries(book, &mut marks, f, places.as_slice())?;
+        add_primaries(book, &mut marks, &mut greatest, f, places.as_slice())?;
     }
     Ok(marks)
 }

@@ -1,4 +1,4 @@
-ghost use Rattle.std.specs.Prelude.{◌≡◌, ◌<◌, length, slice_set, true, ◌↔◌, IsTrue, IfOk, IfSome, Some, slice_get};
+ghost use Rattle.std.specs.Prelude.{◌≡◌, ◌<◌, ◌≤◌, length, insert, slice_set, true, ◌↔◌, IsTrue, IfOk, IfErr, OnOk, OnErr, Some, slice_get};
 ghost use Rattle.std.specs.List.{Contains};
 ghost use Rattle.po_core.specs.declared.obl.Obl.{Obl};
 ghost use Rattle.po_ledger.specs.Calls.{IsItemAt, KeepsTicket, Judges};
@@ -9,6 +9,7 @@ use po_base::{FileNo, FunNo, List, Memory};
 use po_core::{Obl, Rulebook, Verdict};
 use std::alloc::Global;
 use std::marker::{Model, PhantomData};
+use std::mem;
 
 /// The work that a worker holds: a file, the obligations that were taken with it, which of them are settled,
 /// and the tables of functions that were made so far. It can't be copied.
@@ -97,7 +98,8 @@ impl<R: Rulebook, J: Naming<R::Pred, R::Rule, R::Table>> Ticket<R, J> {
 
     /// The verdict of the obligation at a place of its hand. The table of the obligation's function is made where
     /// the ticket doesn't have it yet, and stays with the ticket; nothing else of the ticket changes. Beside the
-    /// making of a table it takes time in the number of tables that were made after it, and of all where it is new.
+    /// making of a table it takes time in the logarithm of the number of tables, and to put a new one among others that
+    /// of the functions that come after its function.
     pub fn verdict(
         &mut self,
         alloc: Global,
@@ -122,19 +124,33 @@ fn is_table_of<T>(entry: &(FunNo, T), f: FunNo) -> bool
     entry.0 == f
 }
 
-/// The place of a function's table among some tables, where it is there. It is looked for from the last made one
-/// backwards, since a file is worked through function by function. Time: the number of the tables made after it.
-fn find_table<T: Drop>(tables: &List<(FunNo, T)>, f: FunNo) -> Option<usize>
-    ensures { IfSome result (λ at. (table : T) × (slice_get tables.now at ≡ Some (f, table))) }
+/// Where a function's table stands among some tables, or else where it belongs. Tables are kept in the order of their
+/// functions, which makes the search take time in the logarithm of their number; no answer rests on it.
+fn find_table<T: Drop>(tables: &List<(FunNo, T)>, f: FunNo) -> Result<usize, usize>
+    ensures found { IfOk result (λ at. (table : T) × (slice_get tables.now at ≡ Some (f, table))) }
+    ensures within { IfErr result (λ at. at ≤ length tables.now) }
 {
     let all = tables.as_slice();
-    for later in 0..tables.len() {
-        let at = tables.len() - 1 - later;
-        if is_table_of(&all[at], f) {
-            return Some(at);
-        }
+    let at = all.partition_point(|entry| entry.0 < f);
+    if at < all.len() && is_table_of(&all[at], f) {
+        return Ok(at);
     }
-    None
+    Err(at)
+}
+
+/// Puts an item at a place, before those from there on. After `Memory` nothing has changed.
+fn insert_at<T: Drop>(alloc: Global, items: &mut List<T>, at: usize, item: T) -> Result<(), Memory>
+    requires { at ≤ length items.old }
+    ensures ok { OnOk result (items.new ≡ insert items.old at item) }
+    ensures err { OnErr result (items.new ≡ items.old) }
+{
+    let mut all = mem::replace(items, List::new(alloc)).into_vec();
+    let inserted = all.insert(at, item);
+    *items = List::from_vec(all);
+    match inserted {
+        Ok(()) => Ok(()),
+        Err(_) => Err(Memory),
+    }
 }
 
 /// The place of a function's table among some tables, where it is made if it isn't there.
@@ -150,11 +166,10 @@ fn table_place<R: Rulebook>(
     ensures found { IfOk result (λ at. (table : R.Table) × (slice_get tables.new at ≡ Some (f, table))) }
 {
     match find_table(tables, f) {
-        Some(at) => Ok(at),
-        None => {
+        Ok(at) => Ok(at),
+        Err(at) => {
             let table = book.table(alloc, f)?;
-            let at = tables.len();
-            tables.push((f, table))?;
+            insert_at(alloc, tables, at, (f, table))?;
             Ok(at)
         }
     }
