@@ -145,6 +145,12 @@ tied_are_same eq by matches same p q h = (same p q).0 (matches p q ∙ (Equal-is
 pub obl_order : {P : Type 0} (eq : P → P → Bool) (by : P → P → Ordering) → IsTotalOrder by → ((p q : P) → eq p q ≡ is_eq (by p q)) → ((p q : P) → IsTrue (eq p q) ↔ (p ≡ q)) → IsTotalOrder (obl_cmp by)
 obl_order eq by total matches same = obl_total by total (tied_are_same eq by matches same)
 
+-- the order of assumptions tells whether two are the same
+pub assumption_tells : {P : Type 0} (eq : P → P → Bool) (by : P → P → Ordering) → IsTotalOrder by → ((p q : P) → eq p q ≡ is_eq (by p q)) → ((p q : P) → IsTrue (eq p q) ↔ (p ≡ q)) → (x y : FunNo × P) → Decides (is_eq (assumption_cmp by x y)) (x ≡ y)
+assumption_tells eq by total matches same =
+    let tied = tied_are_same eq by matches same in
+    tells (assumption_cmp by) (assumption_total by total tied) (assumption_equal by total tied)
+
 -- a list and what it is in another order
 pub moved_same : {X : Type 0} (from old new to : List X) → old ≡ from → IsPermutation old new → to ≡ new → AreSame from to
 moved_same {X} from old new to was moved is x = (

@@ -17,3 +17,4 @@ mod Counted
 mod Lined
 mod Ascending
 mod Reported
+mod Indexed

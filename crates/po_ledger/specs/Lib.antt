@@ -5,3 +5,4 @@ pub mod Parts
 pub mod Answers
 pub mod Sample
 pub mod Alone
+pub mod Indexed

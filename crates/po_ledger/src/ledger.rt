@@ -10,6 +10,7 @@ ghost use Rattle.po_core.specs.Least.{IsLeastReport};
 ghost use Rattle.po_ledger.specs.Answers.{Answers, Reports};
 ghost use Rattle.po_ledger.specs.View.{Fits, IsLedger};
 
+use crate::assumed::Assumed;
 use crate::fitting::{hand_at, is_hand_of};
 use crate::log::{Log, append, into_events, make_room, no_events};
 use crate::marks::{Marks, Remark, change, first_marks, settle_mark};
@@ -41,7 +42,7 @@ pub struct Ledger<'r, R: Rulebook, J: Naming<R::Pred, R::Rule, R::Table>> {
     book: &'r R,
     marks: Marks<R::Pred, R::Rule>,
     hands: Vec<Option<Hand<R::Pred>>>,
-    assumed: Vec<(FunNo, R::Pred)>,
+    assumed: Assumed<R::Pred>,
     shelves: Vec<List<(FunNo, R::Table)>>,
     journal: Log<R::Pred, R::Rule>,
     named: PhantomData<J>,
@@ -58,8 +59,9 @@ impl<'r, R: Rulebook, J: Naming<R::Pred, R::Rule, R::Table>> Model for Ledger<'r
 }
 
 impl<'r, R: Rulebook, J: Naming<R::Pred, R::Rule, R::Table>> Ledger<'r, R, J> {
-    /// A ledger over a rulebook in which the functions' own obligations are known and untaken. Time: the square of their
-    /// number, and the number of files.
+    /// A ledger over a rulebook in which the functions' own obligations are known and untaken. Time: the number of files
+    /// and that of the obligations, where they ascend in the order of obligations; for each that doesn't come after all
+    /// before it, their number.
     pub fn new(alloc: Global, book: &'r R) -> Result<Ledger<'r, R, J>, Memory>
         requires { R.meaning book.now ≡ J.book }
         ensures { IfOk result (IsNew J.book) }
@@ -71,7 +73,7 @@ impl<'r, R: Rulebook, J: Naming<R::Pred, R::Rule, R::Table>> Ledger<'r, R, J> {
             book,
             marks,
             hands,
-            assumed: Vec::new(alloc),
+            assumed: Assumed::new(alloc),
             shelves,
             journal: no_events(alloc),
             named: PhantomData,
@@ -237,7 +239,8 @@ impl<'r, R: Rulebook, J: Naming<R::Pred, R::Rule, R::Table>> Ledger<'r, R, J> {
 
     /// Assumes the predicate `q` of the function of an item of a ticket, whose verdict delegates to it: each call
     /// of the function has its supporting obligation afterwards, and those that are new are untaken. After
-    /// `Memory` nothing has changed. Time: the number of the calls times that of known obligations.
+    /// `Memory` nothing has changed. Time: the logarithm of the number of assumptions, and the number of the calls times
+    /// that of known obligations.
     pub fn post(
         &mut self,
         alloc: Global,
@@ -257,7 +260,6 @@ impl<'r, R: Rulebook, J: Naming<R::Pred, R::Rule, R::Table>> Ledger<'r, R, J> {
         let pred = *q;
         let sites = self.book.call_sites(alloc, obl.fun)?;
         let known = self.marks.as_slice().len();
-        let assumed = self.assumed.as_slice().len();
         match extend(
             self.book,
             &mut self.marks,
@@ -273,7 +275,6 @@ impl<'r, R: Rulebook, J: Naming<R::Pred, R::Rule, R::Table>> Ledger<'r, R, J> {
             }
             Err(Memory) => {
                 self.marks.truncate(known);
-                self.assumed.truncate(assumed);
                 Err(Memory)
             }
         }

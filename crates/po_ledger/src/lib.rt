@@ -3,6 +3,7 @@
 //! settle obligations, and give files back; each call is one legal event of the core and appends just it.
 #![tactic(auto)]
 
+mod assumed;
 mod drain;
 mod fitting;
 mod ledger;

@@ -58,6 +58,15 @@ pub(crate) fn make_room<P, N>(
     Ok(())
 }
 
+/// Takes the room of one event away.
+pub(crate) fn take_room<P, N>(journal: &mut Log<P, N>)
+    requires { 0 < journal.old.spare }
+    ensures items { journal.new.items ≡ journal.old.items }
+    ensures room { journal.old.spare ≡ journal.new.spare + 1 }
+{
+    journal.spare -= 1;
+}
+
 /// Puts an event to the end of a journal that has room for it.
 pub(crate) fn append<P, N>(journal: &mut Log<P, N>, event: Event<P, N>)
     requires { 0 < journal.old.spare }

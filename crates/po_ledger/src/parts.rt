@@ -8,8 +8,9 @@ ghost use Rattle.po_core.specs.declared.event.Mark.TheVariants.{Untaken};
 ghost use Rattle.po_core.specs.declared.obl.Obl.{Obl};
 ghost use Rattle.po_ledger.specs.Parts.{HasKey, AddsEach, TakesFrom, HandAt, NoneTakeable, PushesUntaken, AddsItem, supports_of};
 
-use crate::log::{Log, make_room};
-use crate::marks::{Marks, add_supports, is_same_pred};
+use crate::assumed::{Assumed, assume};
+use crate::log::{Log, make_room, take_room};
+use crate::marks::{Marks, add_supports};
 use po_base::{FileNo, FunNo, List, Memory, NodeNo};
 use po_core::{Hand, Mark, Obl, Rulebook};
 use std::alloc::Global;
@@ -177,55 +178,12 @@ pub(crate) fn all_open<P: Copy>(
     Ok(hand)
 }
 
-/// Assumes a predicate of a function, unless it is assumed. After `Memory` nothing has changed. Time: the number of
-/// assumptions.
-pub(crate) fn assume<R: Rulebook>(
-    book: &R,
-    assumed: &mut Vec<(FunNo, R::Pred)>,
-    f: FunNo,
-    q: R::Pred,
-) -> Result<(), Memory>
-    ensures ok { OnOk result (AddsItem assumed.old.items assumed.new.items (f, q)) }
-    ensures err { OnErr result (assumed.new.items ≡ assumed.old.items) }
-{
-    if is_assumed(book, assumed.as_slice(), f, q) {
-        return Ok(());
-    }
-    match assumed.push((f, q)) {
-        Ok(()) => Ok(()),
-        Err(_) => Err(Memory),
-    }
-}
-
-/// Whether a predicate of a function is assumed.
-fn is_assumed<R: Rulebook>(book: &R, assumed: &[(FunNo, R::Pred)], f: FunNo, q: R::Pred) -> bool
-    ensures { IsTrue result ↔ Contains assumed.now (f, q) }
-{
-    for i in 0..assumed.len() {
-        let entry = assumed[i];
-        if is_same_assumption(book, &entry, f, q) {
-            return true;
-        }
-    }
-    false
-}
-
-/// Whether an assumption is this one.
-fn is_same_assumption<R: Rulebook>(book: &R, entry: &(FunNo, R::Pred), f: FunNo, q: R::Pred) -> bool
-    ensures { IsTrue result ↔ (entry.now ≡ (f, q)) }
-{
-    if entry.0 == f {
-        return is_same_pred(book, entry.1, q);
-    }
-    false
-}
-
 /// What a post adds: the assumption, the obligations at the call sites, and room for one more event. After `Memory`
-/// some may have been added, and there is as much room as before.
+/// some obligations may have been added; all else is as it was.
 pub(crate) fn extend<R: Rulebook>(
     book: &R,
     marks: &mut Marks<R::Pred, R::Rule>,
-    assumed: &mut Vec<(FunNo, R::Pred)>,
+    assumed: &mut Assumed<R::Pred>,
     journal: &mut Log<R::Pred, R::Rule>,
     sites: &[(FunNo, NodeNo)],
     f: FunNo,
@@ -237,11 +195,17 @@ pub(crate) fn extend<R: Rulebook>(
     ensures room { OnOk result (journal.new.spare ≡ journal.old.spare + 1) }
     ensures no_room { OnErr result (journal.new.spare ≡ journal.old.spare) }
     ensures marks_front { (more : List (Obl R.Pred × Mark R.Pred R.Rule)) × (marks.new.items ≡ marks.old.items ++ more) }
-    ensures assumed_front { (more : List (FunNo × R.Pred)) × (assumed.new.items ≡ assumed.old.items ++ more) }
+    ensures nothing_assumed { OnErr result (assumed.new.items ≡ assumed.old.items) }
 {
     add_supports(book, marks, sites, q)?;
-    assume(book, assumed, f, q)?;
-    make_room(journal, 0, 1)
+    make_room(journal, 0, 1)?;
+    match assume(book, assumed, f, q) {
+        Ok(()) => Ok(()),
+        Err(Memory) => {
+            take_room(journal);
+            Err(Memory)
+        }
+    }
 }
 
 /// A place for each file, which nobody holds.
