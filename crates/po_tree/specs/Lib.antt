@@ -7,3 +7,6 @@ pub mod Heights
 pub mod Expressions
 pub mod Declarations
 pub mod Statements
+pub mod Order
+pub mod Scope
+pub mod Gathering

@@ -5,11 +5,13 @@
 mod declaration;
 mod expression;
 mod function;
+mod names;
 mod operator;
 mod statement;
 
 pub use declaration::{Decl, Init};
 pub use expression::{Declarator, Exp, Member, Param, Specifier, Suffix, TypeName};
 pub use function::FunTree;
+pub use names::Names;
 pub use operator::{Infix, Postfix, Prefix, Selector};
 pub use statement::{First, Stmt};
