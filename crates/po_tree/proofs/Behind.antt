@@ -5,7 +5,7 @@ use Rattle.po_tree.specs.declared.declaration.Decl.{Decl}
 use Rattle.po_tree.specs.declared.names.Names.{Names}
 use Rattle.po_tree.specs.declared.names.Declared.{Declared}
 use Rattle.po_tree.specs.Declarations.{IsTypedef}
-use Rattle.po_tree.specs.Scope.{AreBehind, IsTypeBehind, Enumerates, Tags, Somewhere, HasWord}
+use Rattle.po_tree.specs.Scope.{AreBehind, IsTypeBehind, Enumerates, Somewhere, HasWord}
 use Rattle.po_tree.specs.Gathering.{Adds, AddsSpecs, Keeps}
 use Rattle.po_tree.proofs.Sets.{none_contained}
 

@@ -1,16 +1,16 @@
 -- What a walk over a list of parts has gathered, behind one more of them.
-use Rattle.std.proofs.Common.{◌≡◌, ℕ, zero, suc, ◌+◌, ◌<◌, ◌≤◌, List, [], ◌∷◌, ◌++◌, length, get_or, take, map, ap, sym, ◌∙◌, refl, subst, arith, ◌⊎◌, inl, inr, ◌↔◌, Bool}
+use Rattle.std.proofs.Common.{◌≡◌, ℕ, ◌+◌, ◌<◌, List, [], ◌∷◌, ◌++◌, length, get_or, take, map, ap, sym, ◌∙◌, subst, arith, ◌⊎◌, inl, inr, Bool}
 use Rattle.std.specs.Prelude.{Contains, Option, Some, None}
-use Rattle.std.proofs.lemmas.List.{take_more, map_more}
-use Rattle.std.proofs.lemmas.List.Elements.{Contains-append_cases, Contains-append_left, Contains-append_right, Contains-push_cases, Contains-push, Contains-get_or}
+use Rattle.std.proofs.lemmas.List.{take_more}
+use Rattle.std.proofs.lemmas.List.Elements.{Contains-append_left, Contains-push_cases, Contains-push, Contains-get_or}
 use Rattle.po_tree.specs.declared.expression.Exp.{Exp}
 use Rattle.po_tree.specs.declared.expression.Specifier.{Specifier, out-Specifier, out-roll-Specifier}
 use Rattle.po_tree.specs.declared.expression.Exp.TheOpen.{Specifier-F}
 use Rattle.po_tree.specs.declared.expression.Specifier.TheVariants as sp
-use Rattle.po_tree.specs.declared.expression.Member.{Member, out-Member}
+use Rattle.po_tree.specs.declared.expression.Member.{Member}
 use Rattle.po_tree.specs.declared.names.Declared.{Declared}
-use Rattle.po_tree.specs.Scope.{Enumerates, listed, in_member, Tags, of_struct, of_enum, in_body, Somewhere}
-use Rattle.po_tree.specs.Gathering.{Adds, AddsSpec, AddsSpecs, AddsMembers, InMembers}
+use Rattle.po_tree.specs.Scope.{Enumerates, listed, in_member, Tags, of_struct, of_enum, in_body}
+use Rattle.po_tree.specs.Gathering.{Adds, AddsSpec, AddsMembers, InMembers}
 use Rattle.po_tree.proofs.Sets.{adds_then, adds_none, adds_along}
 
 -- some item of a list is such

@@ -1,6 +1,6 @@
 -- Sets of names, as ascending lists.
-use Rattle.std.proofs.Common.{◌≡◌, ℕ, zero, suc, ◌+◌, ◌<◌, ◌≤◌, List, [], ◌∷◌, ◌++◌, length, get_or, take, map, ap, sym, ◌∙◌, refl, subst, arith, Bool, true, false, ◌⊎◌, inl, inr, ◌↔◌, append_assoc, append-nil}
-use Rattle.std.specs.Prelude.{Contains, Option, Some, None}
+use Rattle.std.proofs.Common.{◌≡◌, ℕ, zero, suc, List, [], ◌∷◌, ◌++◌, map, ap, sym, ◌∙◌, refl, subst, arith, true, ◌⊎◌, inl, inr, ◌↔◌, append_assoc, append-nil}
+use Rattle.std.specs.Prelude.{Contains}
 use Rattle.std.specs.List.{list_any}
 use Rattle.std.specs.declared.cmp.Ordering.{Ordering}
 use Rattle.std.specs.declared.cmp.Ordering.TheVariants.{Less, Equal, Greater}
@@ -12,7 +12,7 @@ use Rattle.std.specs.BTreeSet.{insert_key}
 use Rattle.std.proofs.lemmas.Map.Views.{Contains-from_any, list_any-from_Contains}
 use Rattle.std.proofs.lemmas.Map.Lookups.{exact_bytes}
 use Rattle.std.proofs.lemmas.List.{map_push}
-use Rattle.std.proofs.lemmas.List.Elements.{Contains-append_cases, Contains-append_left, Contains-append_right, Contains-push_cases, Contains-push}
+use Rattle.std.proofs.lemmas.List.Elements.{Contains-append_left, Contains-push_cases, Contains-push}
 use Rattle.po_tree.specs.Gathering.{Adds, Keeps}
 
 tells : (o : Ordering) → is_at {K = ℕ} (λ _. o) 0 ≡ true → o ≡ Equal
@@ -22,9 +22,9 @@ tells Greater h = cc
 
 pub has_iff : (xs : List (List ℕ)) (x : List ℕ) → (list_any (is_at (slice_cmp nat_cmp x)) xs ≡ true) ↔ Contains xs x
 has_iff xs x = (
-    Contains-from_any (λ a b h. exact_bytes a b (tells (slice_cmp nat_cmp a b) h)) x xs,
-    list_any-from_Contains (eq_by_cmp_equiv nat_list_cmp_total) x xs,
-  )
+  Contains-from_any (λ a b h. exact_bytes a b (tells (slice_cmp nat_cmp a b) h)) x xs,
+  list_any-from_Contains (eq_by_cmp_equiv nat_list_cmp_total) x xs,
+)
 
 pub first_or_later : {A : Type 0} (y : A) (ys : List A) (x : A) → Contains (y ∷ ys) x → (y ≡ x) ⊎ Contains ys x
 first_or_later y ys x (zero, in', same) = inl same

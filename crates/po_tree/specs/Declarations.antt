@@ -1,8 +1,7 @@
 -- Which declarations are well formed, and which typedef names are in force behind them (C99 6.2.1, 6.7).
-use Rattle.std.specs.Prelude.{ℕ, ◌≤◌, ◌≡◌, ◌≢◌, Bool, true, false, cond, IsTrue, List, [], ◌∷◌, All, Contains, codes, Option, Some, None}
+use Rattle.std.specs.Prelude.{ℕ, ◌≤◌, ◌≢◌, Bool, true, false, cond, IsTrue, List, [], ◌∷◌, All, Contains, codes, Option, Some, None}
 use Rattle.std.specs.Str.{bytes_eq}
 use Rattle.po_tree.specs.declared.expression.Exp.{Exp}
-use Rattle.po_tree.specs.declared.expression.Exp.TheOpen.{Member-F, Param-F}
 use Rattle.po_tree.specs.declared.expression.Specifier.{Specifier}
 use Rattle.po_tree.specs.declared.expression.Specifier.TheVariants as sp
 use Rattle.po_tree.specs.declared.expression.Suffix.{Suffix}

@@ -1,5 +1,5 @@
 -- Which expressions and type names are well formed (C99 6.5, 6.6, 6.7.6).
-use Rattle.std.specs.Prelude.{ℕ, ◌≤◌, ◌<◌, ◌≡◌, List, [], ◌∷◌, length, All, Contains, Option, Some, None, false}
+use Rattle.std.specs.Prelude.{ℕ, ◌≤◌, List, [], ◌∷◌, All, Contains, Option, Some, None, false}
 use Rattle.po_tree.specs.declared.operator.Infix.{Infix}
 use Rattle.po_tree.specs.declared.operator.Prefix.{Prefix}
 use Rattle.po_tree.specs.declared.operator.Postfix.{Postfix}

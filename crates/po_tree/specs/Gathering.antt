@@ -3,7 +3,6 @@ use Rattle.std.specs.Prelude.{ℕ, ◌≡◌, ◌⊎◌, ◌↔◌, List, Contai
 use Rattle.po_tree.specs.declared.expression.Specifier.{Specifier}
 use Rattle.po_tree.specs.declared.expression.Specifier.TheVariants as sp
 use Rattle.po_tree.specs.declared.expression.Member.{Member, out-Member}
-use Rattle.po_tree.specs.declared.expression.Exp.TheOpen.{Member-F}
 use Rattle.po_tree.specs.declared.names.Declared.{Declared}
 use Rattle.po_tree.specs.Scope.{Enumerates, Tags, Somewhere}
 

@@ -1,5 +1,5 @@
 -- How deep trees are: the most expressions, and the most statements, on a path from the root to a leaf.
-use Rattle.std.specs.Prelude.{ℕ, suc, max, Bool, List, [], ◌∷◌, map, Option, Some, None}
+use Rattle.std.specs.Prelude.{ℕ, suc, max, List, [], ◌∷◌, map, Option, Some, None}
 use Rattle.po_tree.specs.declared.expression.Exp.{Exp, fold-Exp}
 use Rattle.po_tree.specs.declared.expression.Exp.TheOpen.{Exp-F, Specifier-F, Suffix-F, Declarator-F, Member-F, Param-F, TypeName-F}
 use Rattle.po_tree.specs.declared.expression.Specifier.{Specifier, fold-Specifier}

@@ -10,3 +10,4 @@ pub mod Statements
 pub mod Order
 pub mod Scope
 pub mod Gathering
+pub mod Layers

@@ -2,7 +2,7 @@
 --
 -- The levels: `,` 0; assignment 1; `? :` 2; `||` 3; `&&` 4; `|` 5; `^` 6; `&` 7; `==` 8; `<` 9; `<<` 10; `+` 11; `*` 12;
 -- cast 13; unary 14; postfix and primary 15.
-use Rattle.std.specs.Prelude.{ℕ, suc, Bool, true, false, IsTrue, List, ◌∷◌, [], ◌++◌, codes, Option, Some, None}
+use Rattle.std.specs.Prelude.{ℕ, suc, Bool, true, false, IsTrue, List, ◌++◌, codes, Option, Some, None}
 use Rattle.po_base.specs.declared.operators.Op.{Op}
 use Rattle.po_base.specs.declared.operators.Op.TheVariants as op
 use Rattle.po_tree.specs.declared.operator.Infix.{Infix}

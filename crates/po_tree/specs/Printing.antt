@@ -1,6 +1,5 @@
 -- The tokens that trees print.
-use Rattle.std.specs.Prelude.{ℕ, Bool, cond, List, [], ◌∷◌, ◌++◌, map, flat_map, codes, Option, Some, None}
-use Rattle.po_base.specs.declared.operators.Op.{Op}
+use Rattle.std.specs.Prelude.{ℕ, cond, List, [], ◌∷◌, ◌++◌, map, flat_map, codes, Option, Some, None}
 use Rattle.po_tree.specs.declared.operator.Infix.TheVariants as i
 use Rattle.po_tree.specs.declared.operator.Prefix.TheVariants as p
 use Rattle.po_tree.specs.declared.operator.Postfix.TheVariants as q
@@ -19,7 +18,7 @@ use Rattle.po_tree.specs.declared.statement.First.TheVariants as f
 use Rattle.po_tree.specs.declared.statement.Stmt.{Stmt, fold-Stmt}
 use Rattle.po_tree.specs.declared.statement.Stmt.TheOpen.{Stmt-F}
 use Rattle.po_tree.specs.declared.function.FunTree.{FunTree}
-use Rattle.po_tree.specs.Signs.{Sign, word, number, character, string, punct, opening, closing, bracket, bracket_end, brace, brace_end, comma, semicolon, colon, question, star, equals, dots, sizeof}
+use Rattle.po_tree.specs.Signs.{Sign, word, number, character, string, opening, closing, bracket, bracket_end, brace, brace_end, comma, semicolon, colon, question, star, equals, dots, sizeof}
 use Rattle.po_tree.specs.Operators.{infix_sign, prefix_sign, postfix_sign, selector_sign}
 
 -- one after the other

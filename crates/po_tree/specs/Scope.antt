@@ -1,5 +1,5 @@
 -- Which names a declaration leaves in force (C99 6.2.1).
-use Rattle.std.specs.Prelude.{ℕ, ◌≡◌, ◌⊎◌, ◌↔◌, Bool, List, [], ◌∷◌, map, Contains, codes, Option, Some, None}
+use Rattle.std.specs.Prelude.{ℕ, ◌≡◌, ◌⊎◌, ◌↔◌, Bool, List, map, Contains, Option, Some}
 use Rattle.po_tree.specs.declared.expression.Exp.{Exp}
 use Rattle.po_tree.specs.declared.expression.Specifier.{Specifier}
 use Rattle.po_tree.specs.declared.expression.Specifier.TheVariants as sp

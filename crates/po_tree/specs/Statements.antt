@@ -1,10 +1,8 @@
 -- Which statements and definitions are well formed (C99 6.8, 6.9.1).
-use Rattle.std.specs.Prelude.{ℕ, suc, ◌≤◌, ◌<◌, ◌≡◌, ◌≢◌, Bool, true, false, IsTrue, List, [], ◌∷◌, length, map, get_or, All, Contains, codes, Option, Some, None}
+use Rattle.std.specs.Prelude.{ℕ, suc, ◌≤◌, ◌<◌, ◌≡◌, Bool, true, false, List, [], ◌∷◌, length, map, get_or, Contains, Option, Some, None}
 use Rattle.po_tree.specs.declared.expression.Exp.{Exp}
 use Rattle.po_tree.specs.declared.expression.Specifier.{Specifier}
-use Rattle.po_tree.specs.declared.expression.Suffix.{Suffix}
 use Rattle.po_tree.specs.declared.expression.Suffix.TheVariants as su
-use Rattle.po_tree.specs.declared.expression.Declarator.{Declarator}
 use Rattle.po_tree.specs.declared.expression.Param.{Param}
 use Rattle.po_tree.specs.declared.declaration.Decl.{Decl}
 use Rattle.po_tree.specs.declared.statement.First.{First}

@@ -213,3 +213,138 @@ impl Names {
         Ok(Names { typedefs, tags })
     }
 }
+
+#[cfg(test)]
+mod tests {
+    use super::*;
+    use crate::expression::{Param, Suffix};
+
+    fn text(alloc: Global, bytes: &[u8]) -> Result<Text, Memory> {
+        Text::new(alloc, bytes)
+    }
+
+    /// A list of one item, or of none.
+    fn listed<T: Drop>(alloc: Global, item: Option<T>) -> Result<List<T>, Memory> {
+        let mut list = List::new(alloc);
+        if let Some(item) = item {
+            list.push(item)?;
+        }
+        Ok(list)
+    }
+
+    fn declarator(alloc: Global, name: &[u8], suffix: Suffix) -> Result<Declarator, Memory> {
+        Ok(Declarator {
+            stars: List::new(alloc),
+            name: Some(text(alloc, name)?),
+            suffix,
+        })
+    }
+
+    /// The specifier `int`.
+    fn int(alloc: Global) -> Result<List<Specifier>, Memory> {
+        listed(alloc, Some(Specifier::Word(text(alloc, b"int")?)))
+    }
+
+    /// The specifier `enum{A}`.
+    fn enumeration(alloc: Global, item: &[u8]) -> Result<List<Specifier>, Memory> {
+        let items = listed(alloc, Some((text(alloc, item)?, None)))?;
+        listed(alloc, Some(Specifier::Enum(None, Some(items), false)))
+    }
+
+    /// The specifier `struct S{MEMBER}`.
+    fn structure(alloc: Global, member: Member) -> Result<List<Specifier>, Memory> {
+        let members = listed(alloc, Some(member))?;
+        let tag = Some(text(alloc, b"S")?);
+        listed(alloc, Some(Specifier::Struct(tag, Some(members))))
+    }
+
+    fn declaration(
+        alloc: Global,
+        specs: List<Specifier>,
+        part: Option<Declarator>,
+    ) -> Result<Decl, Memory> {
+        let parts = match part {
+            Some(part) => listed(alloc, Some((part, None)))?,
+            None => List::new(alloc),
+        };
+        Ok(Decl { specs, parts })
+    }
+
+    /// `typedef int T;`
+    fn new_type(alloc: Global) -> Result<Decl, Memory> {
+        let mut specs = int(alloc)?;
+        specs.push(Specifier::Word(text(alloc, b"typedef")?))?;
+        let part = declarator(alloc, b"T", Suffix::Plain)?;
+        declaration(alloc, specs, Some(part))
+    }
+
+    /// Declarations behind `typedef int T;`, in the order of the table below.
+    fn case(alloc: Global, number: u32) -> Result<Decl, Memory> {
+        match number {
+            0 => declaration(
+                alloc,
+                int(alloc)?,
+                Some(declarator(alloc, b"x", Suffix::Plain)?),
+            ),
+            1 => declaration(
+                alloc,
+                int(alloc)?,
+                Some(declarator(alloc, b"T", Suffix::Plain)?),
+            ),
+            2 => declaration(alloc, enumeration(alloc, b"T")?, None),
+            3 => {
+                let named = declarator(alloc, b"T", Suffix::Plain)?;
+                let member = Member {
+                    specs: int(alloc)?,
+                    declarators: listed(alloc, Some(named))?,
+                };
+                declaration(alloc, structure(alloc, member)?, None)
+            }
+            4 => {
+                let named = declarator(alloc, b"x", Suffix::Plain)?;
+                let member = Member {
+                    specs: enumeration(alloc, b"T")?,
+                    declarators: listed(alloc, Some(named))?,
+                };
+                declaration(alloc, structure(alloc, member)?, None)
+            }
+            5 => {
+                let param = Param {
+                    specs: int(alloc)?,
+                    declarator: declarator(alloc, b"T", Suffix::Plain)?,
+                };
+                let suffix = Suffix::Params(listed(alloc, Some(param))?, false);
+                let function = declarator(alloc, b"f", suffix)?;
+                declaration(alloc, int(alloc)?, Some(function))
+            }
+            _ => new_type(alloc),
+        }
+    }
+
+    /// Whether T is a typedef name and S a tag behind a declaration.
+    fn behind(alloc: Global, number: u32) -> Result<(bool, bool), Memory> {
+        let names = Names::new(alloc).after(alloc, &new_type(alloc)?)?;
+        let names = names.after(alloc, &case(alloc, number)?)?;
+        let tag = text(alloc, b"S")?;
+        Ok((names.is_type(&text(alloc, b"T")?), names.tags.has(&tag)))
+    }
+
+    #[test]
+    fn declarations_hide_typedef_names(rt: HostRuntime) {
+        let rows = [
+            (true, false),
+            (false, false),
+            (false, false),
+            (true, true),
+            (false, true),
+            (true, false),
+            (true, false),
+        ];
+        let mut number = 0;
+        for row in rows {
+            let found = behind(rt.alloc(), number).expect(&rt, "memory");
+            assert_eq!(rt; found, row);
+            number = u32::wrapping_add(number, 1);
+        }
+    }
+}

@@ -1,5 +1,4 @@
 use Rattle.po_tree.proofs.Sets.{adds_one}
-use Rattle.po_tree.proofs.Gathered.{struct_adds}
 use Rattle.po_tree.proofs.names.add.Goals as goal
 
 pub returns : goal.returns

@@ -1,4 +1,4 @@
-use Rattle.std.proofs.Common.{◌≡◌, List, [], ◌++◌, map, sym, ◌∙◌, refl, append-nil}
+use Rattle.std.proofs.Common.{sym, ◌∙◌}
 use Rattle.std.proofs.lemmas.List.{map_push}
 use Rattle.po_tree.proofs.Sets.{adds_none, adds_name, none_contained, walks_on, walked}
 use Rattle.po_tree.proofs.names.add_all.Goals as goal

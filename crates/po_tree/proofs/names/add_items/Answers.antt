@@ -1,4 +1,4 @@
-use Rattle.std.proofs.Common.{◌≡◌, List, [], ◌∷◌, ◌++◌, map, take, sym, ap, ◌∙◌, refl, take_all}
+use Rattle.std.proofs.Common.{sym, take_all}
 use Rattle.std.proofs.lemmas.List.{map_more}
 use Rattle.po_tree.proofs.Sets.{adds_none, adds_name, none_contained}
 use Rattle.po_tree.proofs.names.add_items.Goals as goal

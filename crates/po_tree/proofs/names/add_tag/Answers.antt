@@ -1,4 +1,4 @@
-use Rattle.std.proofs.Common.{◌∙◌, ap, sym}
+use Rattle.std.proofs.Common.{◌∙◌, ap}
 use Rattle.std.specs.Prelude.{Some}
 use Rattle.po_tree.proofs.Sets.{adds_along, adds_none}
 use Rattle.po_tree.proofs.Results.{if_ok-map}

@@ -1,4 +1,3 @@
-use Rattle.std.proofs.Common.{sym, ◌∙◌}
 use Rattle.po_tree.proofs.Sets.{has_iff}
 use Rattle.po_tree.proofs.names.has.Goals as goal
 

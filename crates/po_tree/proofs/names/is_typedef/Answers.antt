@@ -1,5 +1,4 @@
-use Rattle.std.proofs.Common.{◌≡◌, refl, sym, ◌∙◌, subst, take_all}
-use Rattle.std.specs.Prelude.{Contains, codes}
+use Rattle.std.proofs.Common.{refl, take_all}
 use Rattle.po_tree.proofs.Gathered.{contains_more, contains_here}
 use Rattle.po_tree.proofs.names.is_typedef.Goals as goal
 

@@ -1,5 +1,4 @@
 use Rattle.std.proofs.Common.{take}
-use Rattle.std.specs.Prelude.{Contains}
 use Rattle.po_tree.specs.Declarations.{IsTypedef}
 use Rattle.po_tree.proofs.names.is_typedef.Given as goal
 

@@ -1,4 +1,4 @@
-use Rattle.std.proofs.Common.{◌≡◌, List, [], ◌++◌, map, sym, ◌∙◌, refl, append-nil, inl, inr}
+use Rattle.std.proofs.Common.{sym, ◌∙◌, refl, inl, inr}
 use Rattle.std.proofs.lemmas.List.{map_push}
 use Rattle.po_tree.proofs.Sets.{keeps_none, keeps_more, keeps_same, walks_on, walked}
 use Rattle.po_tree.proofs.names.kept.Goals as goal

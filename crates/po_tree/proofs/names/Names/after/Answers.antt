@@ -1,5 +1,4 @@
-use Rattle.std.proofs.Common.{sym, ◌∙◌, ap, inl, inr, refl}
-use Rattle.po_tree.specs.Declarations.{IsTypedef}
+use Rattle.std.proofs.Common.{inl, inr, refl}
 use Rattle.po_tree.proofs.Behind.{behind}
 use Rattle.po_tree.proofs.names.Names.after.Goals as goal
 use Rattle.po_tree.proofs.names.Names.after.Goals.{then-is_typedef+in_ok-add_all, else-is_typedef}
