@@ -1,0 +1,4 @@
+pub mod Results
+pub mod Sets
+pub mod Gathered
+pub mod Behind

@@ -1,0 +1,13 @@
+pub mod Signs
+pub mod Words
+pub mod Literals
+pub mod Operators
+pub mod Printing
+pub mod Heights
+pub mod Expressions
+pub mod Declarations
+pub mod Statements
+pub mod Order
+pub mod Scope
+pub mod Gathering
+pub mod Layers

@@ -1,0 +1,17 @@
+//! The trees of C: expressions, declarations, statements and function definitions, what each of them prints, and which
+//! of them are well formed.
+#![tactic(auto)]
+
+mod declaration;
+mod expression;
+mod function;
+mod names;
+mod operator;
+mod statement;
+
+pub use declaration::{Decl, Init};
+pub use expression::{Declarator, Exp, Member, Param, Specifier, Suffix, TypeName};
+pub use function::FunTree;
+pub use names::Names;
+pub use operator::{Infix, Postfix, Prefix, Selector};
+pub use statement::{First, Stmt};

@@ -1,0 +1,350 @@
+ghost use Rattle.std.specs.Prelude.{ℕ, ◌≡◌, ◌↔◌, ◌⊎◌, [], map, IsTrue, Contains, IfOk, Some};
+ghost use Rattle.po_tree.specs.Declarations.{IsTypedef};
+ghost use Rattle.po_tree.specs.Scope.{AreBehind, Enumerates, Tags, Somewhere, HasWord};
+ghost use Rattle.po_tree.specs.Gathering.{Adds, AddsSpecs, AddsSpec, AddsMembers, Keeps, IsTypedefWord};
+
+use crate::declaration::{Decl, Init};
+use crate::expression::{Declarator, Exp, Member, Specifier};
+use po_base::{List, Memory, OrdList, Text};
+use std::alloc::Global;
+
+/// The names in force at a place whose kind the grammar asks for.
+#[derive(Drop)]
+pub struct Names {
+    /// The typedef names that nothing hides.
+    pub typedefs: OrdList<Text>,
+    /// The tags of structs and enumerations.
+    pub tags: OrdList<Text>,
+}
+
+/// What specifiers declare.
+#[derive(Drop)]
+struct Declared {
+    enumerators: OrdList<Text>,
+    tags: OrdList<Text>,
+}
+
+/// Whether a name is in a set.
+fn has(set: &OrdList<Text>, name: &Text) -> bool
+    ensures { IsTrue result ↔ Contains set.now name.now }
+{
+    set.has(name)
+}
+
+/// Puts a name into a set.
+fn add(set: &mut OrdList<Text>, name: &Text) -> Result<(), Memory>
+    ensures { IfOk result (λ _. Adds (λ x. name.now ≡ x) set.old set.new) }
+{
+    let _ = set.insert(name.share()?)?;
+    Ok(())
+}
+
+/// Puts the names of one set into another. Time linear in the first, but for the logarithm of the second.
+fn add_all(set: &mut OrdList<Text>, more: &OrdList<Text>) -> Result<(), Memory>
+    ensures { IfOk result (λ _. Adds (Contains more.now) set.old set.new) }
+{
+    for name in more.iter() {
+        add(set, name)?;
+    }
+    Ok(())
+}
+
+/// Puts a tag, where it is written, into a set.
+fn add_tag(set: &mut OrdList<Text>, tag: &Option<Text>) -> Result<(), Memory>
+    ensures { IfOk result (λ _. Adds (λ x. tag.now ≡ Some x) set.old set.new) }
+{
+    match tag {
+        Some(name) => add(set, name),
+        None => Ok(()),
+    }
+}
+
+/// Puts the names of enumerators into a set.
+fn add_items(set: &mut OrdList<Text>, items: &[(Text, Option<Exp>)]) -> Result<(), Memory>
+    ensures { IfOk result (λ _. Adds (Contains (map (λ item. item.0) items.now)) set.old set.new) }
+{
+    for item in items {
+        add(set, &item.0)?;
+    }
+    Ok(())
+}
+
+/// Gathers what specifiers declare, in their bodies too. The stack is as deep as bodies are nested.
+#[cycle(gathering)]
+fn gather(specs: &[Specifier], found: &mut Declared) -> Result<(), Memory>
+    ensures { IfOk result (λ _. AddsSpecs specs.now found.old found.new) }
+{
+    for spec in specs {
+        gather_one(spec, found)?;
+    }
+    Ok(())
+}
+
+/// Gathers what one specifier declares.
+#[cycle(gathering)]
+fn gather_one(spec: &Specifier, found: &mut Declared) -> Result<(), Memory>
+    ensures { IfOk result (λ _. AddsSpec spec.now found.old found.new) }
+{
+    match spec {
+        Specifier::Word(_) => Ok(()),
+        Specifier::Named(_) => Ok(()),
+        Specifier::Struct(tag, members) => {
+            add_tag(&mut found.tags, tag)?;
+            match members {
+                Some(members) => gather_members(members.as_slice(), found),
+                None => Ok(()),
+            }
+        }
+        Specifier::Enum(tag, items, _) => {
+            add_tag(&mut found.tags, tag)?;
+            match items {
+                Some(items) => add_items(&mut found.enumerators, items.as_slice()),
+                None => Ok(()),
+            }
+        }
+    }
+}
+
+/// Gathers what the specifiers of members declare.
+#[cycle(gathering)]
+fn gather_members(members: &[Member], found: &mut Declared) -> Result<(), Memory>
+    ensures { IfOk result (λ _. AddsMembers members.now found.old found.new) }
+{
+    for member in members {
+        gather(member.specs.as_slice(), found)?;
+    }
+    Ok(())
+}
+
+/// The words of declarators.
+fn words(alloc: Global, parts: &[(Declarator, Option<Init>)]) -> Result<OrdList<Text>, Memory>
+    ensures { IfOk result (λ words. Adds (HasWord parts.now) [] words) }
+{
+    let mut words = OrdList::new(alloc);
+    for part in parts {
+        add_tag(&mut words, &part.0.name)?;
+    }
+    Ok(words)
+}
+
+/// Whether a specifier is the word `typedef`.
+fn is_typedef_word(spec: &Specifier) -> bool
+    ensures { IsTrue result ↔ IsTypedefWord spec.now }
+{
+    match spec {
+        Specifier::Word(text) => text.bytes() == b"typedef".as_slice(),
+        Specifier::Named(_) => false,
+        Specifier::Struct(_, _) => false,
+        Specifier::Enum(_, _, _) => false,
+    }
+}
+
+/// Whether specifiers say that the words are typedef names.
+fn is_typedef(specs: &[Specifier]) -> bool
+    ensures { IsTrue result ↔ IsTypedef specs.now }
+{
+    for spec in specs {
+        if is_typedef_word(spec) {
+            return true;
+        }
+    }
+    false
+}
+
+/// The names of a set that are in neither of two others.
+fn kept(
+    alloc: Global,
+    set: &OrdList<Text>,
+    one: &OrdList<Text>,
+    other: &OrdList<Text>,
+) -> Result<OrdList<Text>, Memory>
+    ensures { IfOk result (λ kept. Keeps set.now one.now other.now kept) }
+{
+    let mut kept = OrdList::new(alloc);
+    for name in set.iter() {
+        if has(one, name) {
+            continue;
+        }
+        if has(other, name) {
+            continue;
+        }
+        add(&mut kept, name)?;
+    }
+    Ok(kept)
+}
+
+impl Names {
+    /// No names.
+    pub fn new(alloc: Global) -> Names
+        ensures { (result.typedefs ≡ []) × (result.tags ≡ []) }
+    {
+        Names {
+            typedefs: OrdList::new(alloc),
+            tags: OrdList::new(alloc),
+        }
+    }
+
+    /// Whether a name is a typedef name here. Time in the logarithm of their number.
+    pub fn is_type(&self, name: &Text) -> bool
+        ensures { IsTrue result ↔ Contains self.now.typedefs name.now }
+    {
+        has(&self.typedefs, name)
+    }
+
+    /// The names in force behind a declaration: its typedef names and its tags are added, and the enumerators and other words
+    /// that it declares hide typedef names. Names of parameters and of members don't count.
+    ///
+    /// Time is linear in these names and in the declaration, but for a logarithm; the stack is as deep as struct bodies are nested.
+    pub fn after(&self, alloc: Global, d: &Decl) -> Result<Names, Memory>
+        ensures { IfOk result (λ behind. AreBehind self.now d.now behind) }
+    {
+        let mut found = Declared {
+            enumerators: OrdList::new(alloc),
+            tags: OrdList::new(alloc),
+        };
+        gather(d.specs.as_slice(), &mut found)?;
+        let words = words(alloc, d.parts.as_slice())?;
+        let mut typedefs = kept(alloc, &self.typedefs, &found.enumerators, &words)?;
+        if is_typedef(d.specs.as_slice()) {
+            add_all(&mut typedefs, &words)?;
+        }
+        let mut tags = found.tags;
+        add_all(&mut tags, &self.tags)?;
+        Ok(Names { typedefs, tags })
+    }
+}
+
+#[cfg(test)]
+mod tests {
+    use super::*;
+    use crate::expression::{Param, Suffix};
+
+    fn text(alloc: Global, bytes: &[u8]) -> Result<Text, Memory> {
+        Text::new(alloc, bytes)
+    }
+
+    /// A list of one item, or of none.
+    fn listed<T: Drop>(alloc: Global, item: Option<T>) -> Result<List<T>, Memory> {
+        let mut list = List::new(alloc);
+        if let Some(item) = item {
+            list.push(item)?;
+        }
+        Ok(list)
+    }
+
+    fn declarator(alloc: Global, name: &[u8], suffix: Suffix) -> Result<Declarator, Memory> {
+        Ok(Declarator {
+            stars: List::new(alloc),
+            name: Some(text(alloc, name)?),
+            suffix,
+        })
+    }
+
+    /// The specifier `int`.
+    fn int(alloc: Global) -> Result<List<Specifier>, Memory> {
+        listed(alloc, Some(Specifier::Word(text(alloc, b"int")?)))
+    }
+
+    /// The specifier `enum{A}`.
+    fn enumeration(alloc: Global, item: &[u8]) -> Result<List<Specifier>, Memory> {
+        let items = listed(alloc, Some((text(alloc, item)?, None)))?;
+        listed(alloc, Some(Specifier::Enum(None, Some(items), false)))
+    }
+
+    /// The specifier `struct S{MEMBER}`.
+    fn structure(alloc: Global, member: Member) -> Result<List<Specifier>, Memory> {
+        let members = listed(alloc, Some(member))?;
+        let tag = Some(text(alloc, b"S")?);
+        listed(alloc, Some(Specifier::Struct(tag, Some(members))))
+    }
+
+    fn declaration(
+        alloc: Global,
+        specs: List<Specifier>,
+        part: Option<Declarator>,
+    ) -> Result<Decl, Memory> {
+        let parts = match part {
+            Some(part) => listed(alloc, Some((part, None)))?,
+            None => List::new(alloc),
+        };
+        Ok(Decl { specs, parts })
+    }
+
+    /// `typedef int T;`
+    fn new_type(alloc: Global) -> Result<Decl, Memory> {
+        let mut specs = int(alloc)?;
+        specs.push(Specifier::Word(text(alloc, b"typedef")?))?;
+        let part = declarator(alloc, b"T", Suffix::Plain)?;
+        declaration(alloc, specs, Some(part))
+    }
+
+    /// Declarations behind `typedef int T;`, in the order of the table below.
+    fn case(alloc: Global, number: u32) -> Result<Decl, Memory> {
+        match number {
+            0 => declaration(
+                alloc,
+                int(alloc)?,
+                Some(declarator(alloc, b"x", Suffix::Plain)?),
+            ),
+            1 => declaration(
+                alloc,
+                int(alloc)?,
+                Some(declarator(alloc, b"T", Suffix::Plain)?),
+            ),
+            2 => declaration(alloc, enumeration(alloc, b"T")?, None),
+            3 => {
+                let named = declarator(alloc, b"T", Suffix::Plain)?;
+                let member = Member {
+                    specs: int(alloc)?,
+                    declarators: listed(alloc, Some(named))?,
+                };
+                declaration(alloc, structure(alloc, member)?, None)
+            }
+            4 => {
+                let named = declarator(alloc, b"x", Suffix::Plain)?;
+                let member = Member {
+                    specs: enumeration(alloc, b"T")?,
+                    declarators: listed(alloc, Some(named))?,
+                };
+                declaration(alloc, structure(alloc, member)?, None)
+            }
+            5 => {
+                let param = Param {
+                    specs: int(alloc)?,
+                    declarator: declarator(alloc, b"T", Suffix::Plain)?,
+                };
+                let suffix = Suffix::Params(listed(alloc, Some(param))?, false);
+                let function = declarator(alloc, b"f", suffix)?;
+                declaration(alloc, int(alloc)?, Some(function))
+            }
+            _ => new_type(alloc),
+        }
+    }
+
+    /// Whether T is a typedef name and S a tag behind a declaration.
+    fn behind(alloc: Global, number: u32) -> Result<(bool, bool), Memory> {
+        let names = Names::new(alloc).after(alloc, &new_type(alloc)?)?;
+        let names = names.after(alloc, &case(alloc, number)?)?;
+        let tag = text(alloc, b"S")?;
+        Ok((names.is_type(&text(alloc, b"T")?), names.tags.has(&tag)))
+    }
+
+    #[test]
+    fn declarations_hide_typedef_names(rt: HostRuntime) {
+        let rows = [
+            (true, false),
+            (false, false),
+            (false, false),
+            (true, true),
+            (false, true),
+            (true, false),
+            (true, false),
+        ];
+        let mut number = 0;
+        for row in rows {
+            let found = behind(rt.alloc(), number).expect(&rt, "memory");
+            assert_eq!(rt; found, row);
+            number = u32::wrapping_add(number, 1);
+        }
+    }
+}
