@@ -257,17 +257,38 @@ fn a_chain_of_a_thousand_functions_hands_its_assumptions_on(rt: HostRuntime) {
     let alloc = rt.alloc();
     let first: &[u8] = b"int f0(int a,int b){return a/b;}";
     let mut file = Vec::from_slice(alloc, first).expect(&rt, "memory");
-    let first: &[u8] = b"a.c:1 f0 0.0 nonzero(b) delegated nonzero($1)\na.c:1 f0 0.1 no_over(div,a,b) delegated no_over(div,$0,$1)\n";
+    let first: &[u8] =
+        b"a.c:1 f0 0.0 nonzero(b) delegated nonzero($1)\na.c:1 f0 0.1 no_over(div,a,b) delegated no_over(div,$0,$1)\n";
     let mut text = Vec::from_slice(alloc, first).expect(&rt, "memory");
     for k in 1..1000u32 {
-        append(&rt, &mut file, format!(in alloc; "int f{k}(int a,int b){{return f{}(a,b);}}", k - 1));
-        append(&rt, &mut text, format!(in alloc; "a.c:1 f{k} 0.0 nonzero(b) delegated nonzero($1)\n"));
-        append(&rt, &mut text, format!(in alloc; "a.c:1 f{k} 0.1 no_over(div,a,b) delegated no_over(div,$0,$1)\n"));
+        append(
+            &rt,
+            &mut file,
+            format!(in alloc; "int f{k}(int a,int b){{return f{}(a,b);}}", k - 1),
+        );
+        append(
+            &rt,
+            &mut text,
+            format!(in alloc; "a.c:1 f{k} 0.0 nonzero(b) delegated nonzero($1)\n"),
+        );
+        append(
+            &rt,
+            &mut text,
+            format!(in alloc; "a.c:1 f{k} 0.1 no_over(div,a,b) delegated no_over(div,$0,$1)\n"),
+        );
     }
     for k in 0..1000u32 {
-        append(&rt, &mut text, format!(in alloc; "assume a.c f{k} nonzero($1)\nassume a.c f{k} no_over(div,$0,$1)\n"));
+        append(
+            &rt,
+            &mut text,
+            format!(in alloc; "assume a.c f{k} nonzero($1)\nassume a.c f{k} no_over(div,$0,$1)\n"),
+        );
     }
-    append(&rt, &mut text, format!(in alloc; "total 2000 closed 0 delegated 2000 open 0\n"));
+    append(
+        &rt,
+        &mut text,
+        format!(in alloc; "total 2000 closed 0 delegated 2000 open 0\n"),
+    );
     expect_report(&rt, alloc, &file, Status::Clean, &text);
 }
 
@@ -276,14 +297,33 @@ fn a_function_that_is_called_a_thousand_times_is_supported_at_each_call(rt: Host
     let alloc = rt.alloc();
     let first: &[u8] = b"int d(int a,int b){return a/b;}";
     let mut file = Vec::from_slice(alloc, first).expect(&rt, "memory");
-    let first: &[u8] = b"a.c:1 d 0.0 nonzero(b) delegated nonzero($1)\na.c:1 d 0.1 no_over(div,a,b) delegated no_over(div,$0,$1)\n";
+    let first: &[u8] =
+        b"a.c:1 d 0.0 nonzero(b) delegated nonzero($1)\na.c:1 d 0.1 no_over(div,a,b) delegated no_over(div,$0,$1)\n";
     let mut text = Vec::from_slice(alloc, first).expect(&rt, "memory");
     for k in 1..=1000u32 {
-        append(&rt, &mut file, format!(in alloc; "int m{k}(void){{return d(6,{k});}}"));
-        append(&rt, &mut text, format!(in alloc; "a.c:1 m{k} 0.0 nonzero({k}) closed range\n"));
-        append(&rt, &mut text, format!(in alloc; "a.c:1 m{k} 0.1 no_over(div,6,{k}) closed range\n"));
+        append(
+            &rt,
+            &mut file,
+            format!(in alloc; "int m{k}(void){{return d(6,{k});}}"),
+        );
+        append(
+            &rt,
+            &mut text,
+            format!(in alloc; "a.c:1 m{k} 0.0 nonzero({k}) closed range\n"),
+        );
+        append(
+            &rt,
+            &mut text,
+            format!(in alloc; "a.c:1 m{k} 0.1 no_over(div,6,{k}) closed range\n"),
+        );
     }
-    append(&rt, &mut text, format!(in alloc; "assume a.c d nonzero($1)\nassume a.c d no_over(div,$0,$1)\ntotal 2002 closed 2000 delegated 2 open 0\n"));
+    append(
+        &rt,
+        &mut text,
+        format!(in alloc;
+            "assume a.c d nonzero($1)\nassume a.c d no_over(div,$0,$1)\ntotal 2002 closed 2000 delegated 2 open 0\n"
+        ),
+    );
     expect_report(&rt, alloc, &file, Status::Clean, &text);
 }
 
@@ -304,7 +344,13 @@ fn a_call_names_an_earlier_function_or_its_own_with_its_arguments(rt: HostRuntim
         b"int f(int a){return a(1);}",
     ];
     for bytes in refused {
-        expect_report(&rt, rt.alloc(), bytes, Status::Refused, b"refused not-yet a.c\n");
+        expect_report(
+            &rt,
+            rt.alloc(),
+            bytes,
+            Status::Refused,
+            b"refused not-yet a.c\n",
+        );
     }
     expect_report(
         &rt,

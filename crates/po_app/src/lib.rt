@@ -21,8 +21,8 @@ mod verdict;
 mod words;
 
 pub use laws::{
-    closed_report_is_sound, closed_where_all_hold, entries_meet, every_call_starts, least_report_is_closed, report_is_one,
-    report_is_sound, runs_go_on,
+    closed_report_is_sound, closed_where_all_hold, entries_meet, every_call_starts,
+    least_report_is_closed, report_is_one, report_is_sound, runs_go_on,
 };
 pub use rule::Rule;
 pub use status::Status;
