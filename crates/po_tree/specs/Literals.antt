@@ -57,7 +57,7 @@ row base (suc most) value (c ∷ cs) =
 -- behind `\x`: hexadecimal digits, one at least
 abbrev pub hexadecimal : List ℕ → Option (ℕ × List ℕ)
 hexadecimal [] = None
-hexadecimal (c ∷ cs) = cond (is_digit 16 c) (row 16 (suc (length cs)) 0 (c ∷ cs)) None
+hexadecimal (c ∷ cs) = cond (is_digit 16 c) (row (16) (suc (length cs)) 0 (c ∷ cs)) None
 
 -- a simple escape with what stands behind it
 abbrev pub escaped : Option ℕ → List ℕ → Option (ℕ × List ℕ)
@@ -67,7 +67,7 @@ escaped (Some value) cs = Some (value, cs)
 -- the escape whose backslash stands before these bytes: its value and what stands behind it
 abbrev pub escape : List ℕ → Option (ℕ × List ℕ)
 escape [] = None
-escape (c ∷ cs) = cond (is_digit 8 c) (row 8 3 0 (c ∷ cs)) (cond (c == 120) (hexadecimal cs) (escaped (simple c) cs))
+escape (c ∷ cs) = cond (is_digit 8 c) (row (8) 3 0 (c ∷ cs)) (cond (c == 120) (hexadecimal cs) (escaped (simple c) cs))
 
 -- the character at the front of a literal with this quote: its value and what stands behind it
 abbrev pub first_character : ℕ → List ℕ → Option (ℕ × List ℕ)
