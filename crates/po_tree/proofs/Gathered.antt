@@ -2,16 +2,16 @@
 use Rattle.std.proofs.Common.{◌≡◌, ℕ, ◌+◌, ◌<◌, List, [], ◌∷◌, ◌++◌, length, get_or, take, map, ap, sym, ◌∙◌, subst, arith, ◌⊎◌, inl, inr, Bool}
 use Rattle.std.specs.Prelude.{Contains, Option, Some, None}
 use Rattle.std.proofs.lemmas.List.{take_more}
-use Rattle.std.proofs.lemmas.List.Elements.{Contains-append_left, Contains-push_cases, Contains-push, Contains-get_or}
+use Rattle.std.proofs.lemmas.List.Elements.{Contains-append_left, Contains-append_right, Contains-append_cases, Contains-push_cases, Contains-push, Contains-get_or}
 use Rattle.po_tree.specs.declared.expression.Exp.{Exp}
 use Rattle.po_tree.specs.declared.expression.Specifier.{Specifier, out-Specifier, out-roll-Specifier}
 use Rattle.po_tree.specs.declared.expression.Exp.TheOpen.{Specifier-F}
 use Rattle.po_tree.specs.declared.expression.Specifier.TheVariants as sp
-use Rattle.po_tree.specs.declared.expression.Member.{Member}
+use Rattle.po_tree.specs.declared.expression.Member.{Member, out-Member}
 use Rattle.po_tree.specs.declared.names.Declared.{Declared}
-use Rattle.po_tree.specs.Scope.{Enumerates, listed, in_member, Tags, of_struct, of_enum, in_body}
-use Rattle.po_tree.specs.Gathering.{Adds, AddsSpec, AddsMembers, InMembers}
-use Rattle.po_tree.proofs.Sets.{adds_then, adds_none, adds_along}
+use Rattle.po_tree.specs.Scope.{Enumerates, listed, in_member, Tags, of_struct, of_enum, in_body, Somewhere}
+use Rattle.po_tree.specs.Gathering.{Adds, AddsSpec, in_members}
+use Rattle.po_tree.proofs.Sets.{adds_then, adds_none, adds_along, none_contained, first_or_later, is_first, is_later}
 
 -- some item of a list is such
 abbrev pub Some_is : {A : Type 0} → (A → Type 0) → List A → Type 0
@@ -59,7 +59,7 @@ out_struct tag ms = ap out-Specifier (sym (sp.rolls-Struct tag ms)) ∙ out-roll
 out_enum : (tag : Option (List ℕ)) (items : Option (List (List ℕ × Option Exp))) (more : Bool) → out-Specifier (sp.Enum tag items more) ≡ Specifier-F.Enum tag items more
 out_enum tag items more = ap out-Specifier (sym (sp.rolls-Enum tag items more)) ∙ out-roll-Specifier (Specifier-F.Enum tag items more)
 
-same_members : (tag tag' : Option (List ℕ)) (ms ms' : List Member) → sp.Struct tag (Some ms) ≡ sp.Struct tag' (Some ms') → ms ≡ ms'
+pub same_members : (tag tag' : Option (List ℕ)) (ms ms' : List Member) → sp.Struct tag (Some ms) ≡ sp.Struct tag' (Some ms') → ms ≡ ms'
 same_members tag tag' ms ms' q =
     let r : Specifier-F.Struct tag (Some ms) ≡ Specifier-F.Struct tag' (Some ms') = sym (out_struct tag (Some ms)) ∙ ap out-Specifier q ∙ out_struct tag' (Some ms') in cc
 
@@ -67,34 +67,55 @@ same_items : (tag tag' : Option (List ℕ)) (items items' : List (List ℕ × Op
 same_items tag tag' items items' more more' q =
     let r : Specifier-F.Enum tag (Some items) more ≡ Specifier-F.Enum tag' (Some items') more' = sym (out_enum tag (Some items) more) ∙ ap out-Specifier q ∙ out_enum tag' (Some items') more' in cc
 
+-- members
+
+abbrev IsInMember : List Member → Specifier → Type 0
+IsInMember ms s = (m : Member) × Contains ms m × Contains (out-Member m).specs s
+
+to_member : (ms : List Member) (s : Specifier) → Contains (in_members ms) s → IsInMember ms s
+to_member [] s c = absurd (none_contained s c)
+to_member (m ∷ ms) s c = elim (Contains-append_cases (out-Member m).specs (in_members ms) s c) [
+  | inl here ↦ (m, is_first m ms, here)
+  | inr later ↦ let w = to_member ms s later in (w.0, is_later m ms w.0 w.1, w.2)
+]
+
+from_member : (ms : List Member) (m : Member) (s : Specifier) → Contains ms m → Contains (out-Member m).specs s → Contains (in_members ms) s
+from_member [] m s c d = absurd (none_contained m c)
+from_member (m' ∷ ms) m s c d = elim (first_or_later m' ms m c) [
+  | inl q ↦ Contains-append_left (out-Member m').specs (in_members ms) s (subst (λ v. Contains (out-Member v).specs s) (sym q) d)
+  | inr later ↦ Contains-append_right (out-Member m').specs (in_members ms) s (from_member ms m s later d)
+]
+
 -- structs
-body_enumerates : (tag : Option (List ℕ)) (ms : List Member) (x : List ℕ) (s : Specifier) → s ≡ sp.Struct tag (Some ms) → Enumerates x s → InMembers (Enumerates x) ms
+pub body_enumerates : (tag : Option (List ℕ)) (ms : List Member) (x : List ℕ) (s : Specifier) → s ≡ sp.Struct tag (Some ms) → Enumerates x s → Somewhere (Enumerates x) (in_members ms)
 body_enumerates tag0 ms0 x s q (listed tag items more c) = absurd cc
-body_enumerates tag0 ms0 x s q (in_member tag ms m s' c d w) = let same = same_members tag tag0 ms ms0 q in (m, subst (λ v. Contains v m) same c, (s', d, w))
+body_enumerates tag0 ms0 x s q (in_member tag ms m s' c d w) =
+    let same = same_members tag tag0 ms ms0 q in (s', subst (λ v. Contains (in_members v) s') same (from_member ms m s' c d), w)
+
+pub enumerates_body : (tag : Option (List ℕ)) (ms : List Member) (x : List ℕ) (s : Specifier) → s ≡ sp.Struct tag (Some ms) → Somewhere (Enumerates x) (in_members ms) → Enumerates x s
+enumerates_body tag ms x s q (s', c, w) = let m = to_member ms s' c in subst (Enumerates x) (sym q) (in_member tag ms m.0 s' m.1 m.2 w)
 
 struct_enumerates_none : {tag : Option (List ℕ)} {x : List ℕ} (s : Specifier) → s ≡ sp.Struct tag None → Enumerates x s → ⊥
 struct_enumerates_none s q (listed tag items more c) = cc
 struct_enumerates_none s q (in_member tag ms m s' c d w) = cc
 
-body_tags : (tag : Option (List ℕ)) (ms : List Member) (x : List ℕ) (s : Specifier) → s ≡ sp.Struct tag (Some ms) → Tags x s → (tag ≡ Some x) ⊎ InMembers (Tags x) ms
+pub body_tags : (tag : Option (List ℕ)) (ms : List Member) (x : List ℕ) (s : Specifier) → s ≡ sp.Struct tag (Some ms) → Tags x s →
+    (tag ≡ Some x) ⊎ Somewhere (Tags x) (in_members ms)
 body_tags tag0 ms0 x s q (of_struct ms) = inl cc
 body_tags tag0 ms0 x s q (of_enum items more) = absurd cc
-body_tags tag0 ms0 x s q (in_body tag ms m s' c d w) = let same = same_members tag tag0 ms ms0 q in inr (m, subst (λ v. Contains v m) same c, (s', d, w))
+body_tags tag0 ms0 x s q (in_body tag ms m s' c d w) =
+    let same = same_members tag tag0 ms ms0 q in inr (s', subst (λ v. Contains (in_members v) s') same (from_member ms m s' c d), w)
+
+pub tags_body : (tag : Option (List ℕ)) (ms : List Member) (x : List ℕ) (s : Specifier) → s ≡ sp.Struct tag (Some ms) → Somewhere (Tags x) (in_members ms) → Tags x s
+tags_body tag ms x s q (s', c, w) = let m = to_member ms s' c in subst (Tags x) (sym q) (in_body tag ms m.0 s' m.1 m.2 w)
 
 struct_tags : {tag : Option (List ℕ)} {x : List ℕ} (s : Specifier) → s ≡ sp.Struct tag None → Tags x s → tag ≡ Some x
 struct_tags s q (of_struct ms) = cc
 struct_tags s q (of_enum items more) = absurd cc
 struct_tags s q (in_body tag ms m s' c d w) = absurd cc
 
-own_tag : {x : List ℕ} (s : Specifier) (tag : Option (List ℕ)) (ms : Option (List Member)) → s ≡ sp.Struct tag ms → tag ≡ Some x → Tags x s
+pub own_tag : {x : List ℕ} (s : Specifier) (tag : Option (List ℕ)) (ms : Option (List Member)) → s ≡ sp.Struct tag ms → tag ≡ Some x → Tags x s
 own_tag {x = x} s tag ms q r = subst (Tags x) (sym (q ∙ ap (λ v. sp.Struct v ms) r)) (of_struct ms)
-
-pub struct_adds : (tag : Option (List ℕ)) (ms : List Member) (s : Specifier) (a : Declared) (tags : List (List ℕ)) (b : Declared) → s ≡ sp.Struct tag (Some ms) →
-    Adds (λ x. tag ≡ Some x) a.tags tags → AddsMembers ms (record { enumerators = a.enumerators; tags = tags }) b → AddsSpec s a b
-struct_adds tag ms s a tags b q t m = record {
-  enumerators = adds_along (λ x h. subst (Enumerates x) (sym q) (in_member tag ms h.0 h.2.0 h.1 h.2.1 h.2.2)) (λ x h. body_enumerates tag ms x s q h) m.enumerators;
-  tags = adds_then t m.tags (λ x h. own_tag s tag (Some ms) q h) (λ x h. subst (Tags x) (sym q) (in_body tag ms h.0 h.2.0 h.1 h.2.1 h.2.2)) (λ x h. body_tags tag ms x s q h);
-}
 
 pub struct_tag_adds : (tag : Option (List ℕ)) (s : Specifier) (a : Declared) (tags : List (List ℕ)) → s ≡ sp.Struct tag None →
     Adds (λ x. tag ≡ Some x) a.tags tags → AddsSpec s a (record { enumerators = a.enumerators; tags = tags })

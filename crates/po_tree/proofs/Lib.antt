@@ -1,4 +1,9 @@
 pub mod Results
 pub mod Sets
 pub mod Gathered
+pub mod Counts
+pub mod Waiting
 pub mod Behind
+pub mod Weights
+pub mod Thin
+pub mod Moves

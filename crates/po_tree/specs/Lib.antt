@@ -11,3 +11,4 @@ pub mod Order
 pub mod Scope
 pub mod Gathering
 pub mod Layers
+pub mod Letting

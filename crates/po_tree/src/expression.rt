@@ -1,3 +1,7 @@
+ghost use Rattle.std.specs.Prelude.{◌≡◌};
+ghost use Rattle.po_tree.specs.declared.expression.Member.{out-Member};
+
+use crate::letting::let_go_of_all;
 use po_base::{Boxed, List, Op, Text};
 
 /// An expression (C99 6.5). Parentheses are nodes.
@@ -87,10 +91,29 @@ pub enum Specifier {
 
 /// A declaration of members (C99 6.7.2.1).
 #[cycle(tree)]
-#[derive(Drop)]
 pub struct Member {
     pub specs: List<Specifier>,
     pub declarators: List<Declarator>,
+}
+
+impl Member {
+    /// The two parts, moved out.
+    pub fn into_parts(self) -> (List<Specifier>, List<Declarator>)
+        ensures { (result.0 ≡ (out-Member self).specs) × (result.1 ≡ (out-Member self).declarators) }
+    {
+        let Member { specs, declarators } = self;
+        (specs, declarators)
+    }
+}
+
+/// The bodies inside are let go in a loop, so that the stack doesn't grow with their nesting.
+impl Drop for Member {
+    #[cycle(letting)]
+    fn drop(self) {
+        let Member { specs, declarators } = self;
+        let_go_of_all(specs);
+        drop(declarators);
+    }
 }
 
 /// A declarator (C99 6.7.5).

@@ -5,6 +5,7 @@
 mod declaration;
 mod expression;
 mod function;
+mod letting;
 mod names;
 mod operator;
 mod statement;

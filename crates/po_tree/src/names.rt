@@ -1,7 +1,7 @@
-ghost use Rattle.std.specs.Prelude.{ℕ, ◌≡◌, ◌↔◌, ◌⊎◌, [], map, IsTrue, Contains, IfOk, Some};
+ghost use Rattle.std.specs.Prelude.{ℕ, ◌≡◌, ◌↔◌, ◌⊎◌, [], ◌++◌, map, IsTrue, Contains, IfOk, Some};
 ghost use Rattle.po_tree.specs.Declarations.{IsTypedef};
 ghost use Rattle.po_tree.specs.Scope.{AreBehind, Enumerates, Tags, Somewhere, HasWord};
-ghost use Rattle.po_tree.specs.Gathering.{Adds, AddsSpecs, AddsSpec, AddsMembers, Keeps, IsTypedefWord};
+ghost use Rattle.po_tree.specs.Gathering.{Adds, AddsSpecs, Opens, in_members, Keeps, IsTypedefWord};
 
 use crate::declaration::{Decl, Init};
 use crate::expression::{Declarator, Exp, Member, Specifier};
@@ -69,21 +69,33 @@ fn add_items(set: &mut OrdList<Text>, items: &[(Text, Option<Exp>)]) -> Result<(
     Ok(())
 }
 
-/// Gathers what specifiers declare, in their bodies too. The stack is as deep as bodies are nested.
-#[cycle(gathering)]
-fn gather(specs: &[Specifier], found: &mut Declared) -> Result<(), Memory>
-    ensures { IfOk result (λ _. AddsSpecs specs.now found.old found.new) }
+/// Puts specifiers behind those that wait.
+fn wait<'a>(waiting: &mut List<&'a Specifier>, specs: &'a [Specifier]) -> Result<(), Memory>
+    ensures { IfOk result (λ _. map (λ s. s.now) waiting.new ≡ map (λ s. s.now) waiting.old ++ specs.now) }
 {
     for spec in specs {
-        gather_one(spec, found)?;
+        waiting.push(spec)?;
     }
     Ok(())
 }
 
-/// Gathers what one specifier declares.
-#[cycle(gathering)]
-fn gather_one(spec: &Specifier, found: &mut Declared) -> Result<(), Memory>
-    ensures { IfOk result (λ _. AddsSpec spec.now found.old found.new) }
+/// Puts the specifiers of members behind those that wait.
+fn wait_members<'a>(waiting: &mut List<&'a Specifier>, members: &'a [Member]) -> Result<(), Memory>
+    ensures { IfOk result (λ _. map (λ s. s.now) waiting.new ≡ map (λ s. s.now) waiting.old ++ in_members members.now) }
+{
+    for member in members {
+        wait(waiting, member.specs.as_slice())?;
+    }
+    Ok(())
+}
+
+/// Gathers what one specifier declares by itself, and lets those of its body wait.
+fn gather_one<'a>(
+    spec: &'a Specifier,
+    waiting: &mut List<&'a Specifier>,
+    found: &mut Declared,
+) -> Result<(), Memory>
+    ensures { IfOk result (λ _. Opens spec.now (map (λ s. s.now) waiting.old) (map (λ s. s.now) waiting.new) found.old found.new) }
 {
     match spec {
         Specifier::Word(_) => Ok(()),
@@ -91,7 +103,7 @@ fn gather_one(spec: &Specifier, found: &mut Declared) -> Result<(), Memory>
         Specifier::Struct(tag, members) => {
             add_tag(&mut found.tags, tag)?;
             match members {
-                Some(members) => gather_members(members.as_slice(), found),
+                Some(members) => wait_members(waiting, members.as_slice()),
                 None => Ok(()),
             }
         }
@@ -105,13 +117,14 @@ fn gather_one(spec: &Specifier, found: &mut Declared) -> Result<(), Memory>
     }
 }
 
-/// Gathers what the specifiers of members declare.
-#[cycle(gathering)]
-fn gather_members(members: &[Member], found: &mut Declared) -> Result<(), Memory>
-    ensures { IfOk result (λ _. AddsMembers members.now found.old found.new) }
+/// Gathers what specifiers declare, in their bodies too, however deep these are nested.
+fn gather(alloc: Global, specs: &[Specifier], found: &mut Declared) -> Result<(), Memory>
+    ensures { IfOk result (λ _. AddsSpecs specs.now found.old found.new) }
 {
-    for member in members {
-        gather(member.specs.as_slice(), found)?;
+    let mut waiting = List::new(alloc);
+    wait(&mut waiting, specs)?;
+    while let Some(spec) = waiting.pop() {
+        gather_one(spec, &mut waiting, found)?;
     }
     Ok(())
 }
@@ -194,7 +207,7 @@ impl Names {
     /// The names in force behind a declaration: its typedef names and its tags are added, and the enumerators and other words
     /// that it declares hide typedef names. Names of parameters and of members don't count.
     ///
-    /// Time is linear in these names and in the declaration, but for a logarithm; the stack is as deep as struct bodies are nested.
+    /// Time is linear in these names and in the declaration, but for a logarithm; the stack doesn't grow with the nesting of struct bodies.
     pub fn after(&self, alloc: Global, d: &Decl) -> Result<Names, Memory>
         ensures { IfOk result (λ behind. AreBehind self.now d.now behind) }
     {
@@ -202,7 +215,7 @@ impl Names {
             enumerators: OrdList::new(alloc),
             tags: OrdList::new(alloc),
         };
-        gather(d.specs.as_slice(), &mut found)?;
+        gather(alloc, d.specs.as_slice(), &mut found)?;
         let words = words(alloc, d.parts.as_slice())?;
         let mut typedefs = kept(alloc, &self.typedefs, &found.enumerators, &words)?;
         if is_typedef(d.specs.as_slice()) {
@@ -346,5 +359,32 @@ mod tests {
             assert_eq!(rt; found, row);
             number = u32::wrapping_add(number, 1);
         }
+    }
+
+    /// `struct T { struct U { .. }; };`, so deep, each with a tag of its own.
+    fn nested(alloc: Global, depth: u32) -> Result<Decl, Memory> {
+        let mut specs = int(alloc)?;
+        for level in 0..depth {
+            let member = Member {
+                specs,
+                declarators: List::new(alloc),
+            };
+            let tag = Some(text(alloc, &level.to_be_bytes())?);
+            let members = listed(alloc, Some(member))?;
+            specs = listed(alloc, Some(Specifier::Struct(tag, Some(members))))?;
+        }
+        declaration(alloc, specs, None)
+    }
+
+    /// How many tags there are behind a declaration so deep.
+    fn tags_behind(alloc: Global, depth: u32) -> Result<usize, Memory> {
+        let names = Names::new(alloc).after(alloc, &nested(alloc, depth)?)?;
+        Ok(names.tags.len())
+    }
+
+    #[test]
+    fn deep_bodies_leave_their_tags(rt: HostRuntime) {
+        let tags = tags_behind(rt.alloc(), 200000).expect(&rt, "memory");
+        assert_eq!(rt; tags, 200000);
     }
 }
