@@ -1,6 +1,6 @@
 ghost use Rattle.std.specs.Prelude.{◌≤◌, ◌^◌, length, IfOk};
 
-use crate::preprocessed::LONGEST;
+use crate::preprocessed::longest;
 use crate::{LexFail, Piece, ShapeFail, kept, pieces, tokens};
 use po_base::{List, Text, Token, Tokens};
 use std::alloc::Global;
@@ -290,7 +290,8 @@ fn lines_of(rt: &impl Abort, alloc: Global, tokens: &Tokens, name: &[u8], text: 
 // attributes and `__asm__` cut out by others, pieces by a count of brackets. The lines are read off `data/longest.c`.
 #[test]
 fn what_gcc_writes_divides(rt: HostRuntime) {
-    let found = read(&rt, rt.alloc(), LONGEST).expect(&rt, "tokens");
+    let bytes = longest(rt.alloc()).expect(&rt, "memory");
+    let found = read(&rt, rt.alloc(), bytes.as_slice()).expect(&rt, "tokens");
     assert!(rt; found.list.len() == 8596);
     let names: [&[u8]; 6] = [
         b"main.c",
