@@ -1,6 +1,6 @@
 -- Sorted lists without doubles ascend; the order of obligations and of assumptions is an order.
-use Rattle.std.proofs.Common.{◌≡◌, ◌≢◌, ◌⊎◌, ℕ, zero, suc, ◌+◌, ◌<◌, List, [], ◌∷◌, ◌++◌, inl, inr, length, map, get_or, refl, sym, ◌∙◌, ap, subst, arith}
-use Rattle.std.specs.Prelude.{Bool, true, false, ◌↔◌, IsTrue, Option, Some, None, Result, Ok, Err, OnOk}
+use Rattle.std.proofs.Common.{◌≡◌, ◌≢◌, ℕ, zero, suc, ◌+◌, ◌<◌, List, [], ◌∷◌, length, map, get_or, refl, sym, ◌∙◌, ap, subst, arith}
+use Rattle.std.specs.Prelude.{Bool, true, false, ◌↔◌, IsTrue}
 use Rattle.std.specs.List.{Contains, AllPairs, IsDistinct}
 use Rattle.std.specs.List.Sorted.{IsPermutation, IsSortedBy}
 use Rattle.std.specs.Bool.{Decides}
@@ -12,7 +12,6 @@ use Rattle.std.proofs.lemmas.Bool.{false≢true}
 use Rattle.std.proofs.lemmas.Cmp.{nat_cmp_total, tied_itself}
 use Rattle.std.proofs.lemmas.List.{get_or-map, get_or_default, length-map, map-id}
 use Rattle.std.proofs.lemmas.List.Sorted.{Contains-permutation, IsPermutation-map, IsPermutation-sym, ranks_by, sorted_far}
-use Rattle.std.proofs.lemmas.List.Elements.{Contains-push_cases}
 use Rattle.std.proofs.lemmas.Map.Keys.{IsDistinct-IsPermutation}
 use Rattle.std.proofs.lemmas.Map.Made.{AllPairs-from_IsDistinct, IsDistinct-from_AllPairs}
 use Rattle.po_base.specs.declared.numbers.FunNo.{FunNo}
@@ -22,10 +21,9 @@ use Rattle.po_core.specs.Order.{assumption_cmp, cause_cmp, obl_cmp}
 use Rattle.po_core.specs.declared.obl.Cause.{Cause}
 use Rattle.po_core.specs.declared.obl.Cause.TheVariants.{Primary, Support}
 use Rattle.po_core.specs.declared.event.Mark.{Mark}
-use Rattle.po_core.specs.declared.event.Mark.TheVariants.{Untaken}
 use Rattle.po_core.specs.declared.obl.Obl.{Obl}
 use Rattle.po_core.specs.declared.obl.Verdict.{Verdict}
-use Rattle.po_ledger.specs.Parts.{AddsUntaken, AreLines, AreSame, AreSorted, AreUpTo, HasKey, IsAbove, ListsVerdicts}
+use Rattle.po_ledger.specs.Parts.{AreLines, AreSame, AreSorted, ListsVerdicts}
 
 -- items that stand apart differ at any two places
 differ : {X : Type 0} (xs : List X) → AreApart xs → AllPairs (λ x y. x ≢ y) xs
@@ -141,10 +139,6 @@ module _ {P : Type 0} (by : P → P → Ordering) (total : IsTotalOrder by) (equ
 pub tied_are_same : {P : Type 0} (eq : P → P → Bool) (by : P → P → Ordering) → ((p q : P) → eq p q ≡ is_eq (by p q)) → ((p q : P) → IsTrue (eq p q) ↔ (p ≡ q)) → (p q : P) → by p q ≡ Equal → p ≡ q
 tied_are_same eq by matches same p q h = (same p q).0 (matches p q ∙ (Equal-is (by p q)).1 h)
 
--- obligations are ordered, where a rulebook's predicates are
-pub obl_order : {P : Type 0} (eq : P → P → Bool) (by : P → P → Ordering) → IsTotalOrder by → ((p q : P) → eq p q ≡ is_eq (by p q)) → ((p q : P) → IsTrue (eq p q) ↔ (p ≡ q)) → IsTotalOrder (obl_cmp by)
-obl_order eq by total matches same = obl_total by total (tied_are_same eq by matches same)
-
 -- the order of assumptions tells whether two are the same
 pub assumption_tells : {P : Type 0} (eq : P → P → Bool) (by : P → P → Ordering) → IsTotalOrder by → ((p q : P) → eq p q ≡ is_eq (by p q)) → ((p q : P) → IsTrue (eq p q) ↔ (p ≡ q)) → (x y : FunNo × P) → Decides (is_eq (assumption_cmp by x y)) (x ≡ y)
 assumption_tells eq by total matches same =
@@ -189,54 +183,3 @@ lines_ascend {P} {N} by total same marks old new to are cmp sorts answers is =
     let key : (Obl P × Verdict P N) → Obl P = λ line. line.0 in
     let up : AllPairs (λ (a b : Obl P × Verdict P N). obl_cmp by a.0 b.0 ≡ Less) new = ascends (obl_cmp by) (obl_total by total same) (obl_equal by total same) key old new are.apart sorts.same (sorted_alike cmp (obl_cmp by) (alike by cmp answers) key new sorts.sorted) in
     subst (λ (z : List (Obl P × Verdict P N)). AllPairs (λ a b. obl_cmp by a.0 b.0 ≡ Less) z) (sym is) up
-
-key_pushed : {P N : Type 0} (old new : List (Obl P × Mark P N)) (o k : Obl P) → new ≡ old ++ (o, Untaken) ∷ [] → HasKey new k → HasKey old k ⊎ (o ≡ k)
-key_pushed {P} {N} old new o k is known = elim (Contains-push_cases old (o, Untaken) (k, known.0) (subst (λ (z : List (Obl P × Mark P N)). Contains z (k, known.0)) is known.1)) [
-  | inl there ↦ inl (known.0, there)
-  | inr q ↦ inr (ap (λ (z : Obl P × Mark P N). z.0) q)
-]
-
-reverse_less : (a : Ordering) → a ≡ Greater → ordering_reverse a ≡ Less
-reverse_less Greater q = refl
-reverse_less Less q = absurd (cc)
-reverse_less Equal q = absurd (cc)
-
-reverse_greater : (a : Ordering) → a ≡ Less → ordering_reverse a ≡ Greater
-reverse_greater Less q = refl
-reverse_greater Greater q = absurd (cc)
-reverse_greater Equal q = absurd (cc)
-
--- what comes after the greatest of known obligations isn't known, and is the greatest of them and itself
-module _ {P : Type 0} (by : P → P → Ordering) (total : IsTotalOrder (obl_cmp by)) where
-  before : (o p : Obl P) → obl_cmp by o p ≡ Greater → obl_cmp by p o ≡ Less
-  before o p h = total.antisymm p o ∙ reverse_less (obl_cmp by o p) h
-
-  after : (o p : Obl P) → obl_cmp by o p ≡ Less → obl_cmp by p o ≡ Greater
-  after o p h = total.antisymm p o ∙ reverse_greater (obl_cmp by o p) h
-
-  not_above_itself : (o : Obl P) → obl_cmp by o o ≡ Greater → ⊥
-  not_above_itself o h = let tied : obl_cmp by o o ≡ Equal = tied_itself total o in let both : Equal ≡ Greater = sym tied ∙ h in absurd (cc)
-
-  pub above_is_new : {N : Type 0} (marks : List (Obl P × Mark P N)) (greatest : Option (Obl P)) (o : Obl P) → AreUpTo by marks greatest → IsAbove by o greatest → ¬ HasKey marks o
-  above_is_new marks greatest o up above known = up o known above
-
-  not_above : (k o : Obl P) (greatest : Option (Obl P)) → (IsAbove by k greatest → ⊥) → IsAbove by o greatest → obl_cmp by k o ≡ Greater → ⊥
-  not_above k o None low above h = low tt
-  not_above k o (Some last) low above h = low (after last k (total.trans last o k (before o last above) (before k o h)))
-
-  pub up_to_new : {N : Type 0} (old new : List (Obl P × Mark P N)) (greatest : Option (Obl P)) (o : Obl P) → AreUpTo by old greatest → IsAbove by o greatest → new ≡ old ++ (o, Untaken) ∷ [] → AreUpTo by new (Some o)
-  up_to_new old new greatest o up above is k known h = elim (key_pushed old new o k is known) [
-    | inl there ↦ not_above k o greatest (up k there) above h
-    | inr q ↦ not_above_itself o (subst (λ (z : Obl P). obl_cmp by z o ≡ Greater) (sym q) h)
-  ]
-
-  pub up_to_same : {N : Type 0} (old new : List (Obl P × Mark P N)) (greatest : Option (Obl P)) (o : Obl P) → AreUpTo by old greatest → (IsAbove by o greatest → ⊥) → AddsUntaken old new o → AreUpTo by new greatest
-  up_to_same {N} old new greatest o up low (inl h) = subst (λ (z : List (Obl P × Mark P N)). AreUpTo by z greatest) (sym h.1) up
-  up_to_same old new greatest o up low (inr h) = λ k known. elim (key_pushed old new o k h.1 known) [
-    | inl there ↦ up k there
-    | inr q ↦ subst (λ (z : Obl P). IsAbove by z greatest → ⊥) q low
-  ]
-
-  pub up_to_added : {X E N : Type 0} (r : Result X E) (old new : List (Obl P × Mark P N)) (greatest : Option (Obl P)) (o : Obl P) → AreUpTo by old greatest → (IsAbove by o greatest → ⊥) → OnOk r (AddsUntaken old new o) → OnOk r (AreUpTo by new greatest)
-  up_to_added (Ok x) old new greatest o up low h = up_to_same old new greatest o up low h
-  up_to_added (Err e) old new greatest o up low h = h

@@ -18,3 +18,4 @@ mod Lined
 mod Ascending
 mod Reported
 mod Indexed
+mod Located

@@ -21,11 +21,6 @@ use Rattle.po_ledger.specs.Parts.{HasKey, HandAt, NoneTakeable, PushesUntaken, T
 pub take_read : {X : Type 0} (xs : List X) (i : ℕ) (x : X) → i < length xs → x ≡ get_or xs i x → take (i + 1) xs ≡ take i xs ++ x ∷ []
 take_read xs i x l q = take_more xs i x l ∙ ap (λ y. take i xs ++ y ∷ []) (sym q)
 
-pub key_more : {P N : Type 0} (marks : List (Obl P × Mark P N)) (i : ℕ) (e : Obl P × Mark P N) (o : Obl P) → i < length marks → e ≡ get_or marks i e → (HasKey (take i marks) o → ⊥) → (e.0 ≡ o → ⊥) → HasKey (take (i + 1) marks) o → ⊥
-key_more {P} {N} marks i e o l q none other h =
-    let here : Contains (take i marks ++ e ∷ []) (o, h.0) = subst (λ (z : List (Obl P × Mark P N)). Contains z (o, h.0)) (take_read marks i e l q) h.1 in
-    elim (Contains-push_cases (take i marks) e (o, h.0) here) [ inl x ↦ none (h.0, x) | inr x ↦ other (ap (λ (z : Obl P × Mark P N). z.0) x) ]
-
 -- keys of a list of marks
 pub key_of_mark : {P N : Type 0} (marks : List (Obl P × Mark P N)) (o : Obl P) → Contains (map (λ e. e.0) marks) o → HasKey marks o
 key_of_mark {P} {N} marks o h =

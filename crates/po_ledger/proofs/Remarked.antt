@@ -82,3 +82,6 @@ settled_at {P} {N} b o v old at e m apart l is stands after =
 -- a mark that is read at a place
 pub mark_read : {P N : Type 0} (marks : List (Obl P × Mark P N)) (at : ℕ) (e : Obl P × Mark P N) (o : Obl P) → at < length marks → e ≡ get_or marks at e → e.0 ≡ o → IsMarkAt marks at o
 mark_read {P} {N} marks at e o l is q = (e.1, slice_get_read marks (length marks) at e refl l is ∙ ap (λ (z : Obl P). let y : Option (Obl P × Mark P N) = Some (z, e.1) in y) q)
+
+pub read_mark : {P N : Type 0} (marks : List (Obl P × Mark P N)) (at : ℕ) (e : Obl P × Mark P N) (o : Obl P) → at < length marks → e ≡ get_or marks at e → IsMarkAt marks at o → e.0 ≡ o
+read_mark {P} {N} marks at e o l is h = ap (λ (z : Obl P × Mark P N). z.0) (same_Some e (o, h.0) (sym (slice_get_read marks (length marks) at e refl l is) ∙ h.1))

@@ -20,6 +20,7 @@ use Rattle.po_core.specs.declared.obl.Obl.{Obl}
 use Rattle.po_core.specs.Lists.{Has, has, contains, contains_map, has_from_map}
 use Rattle.po_core.specs.Marks.{taken_untaken}
 use Rattle.po_ledger.specs.Calls.{IsNew}
+use Rattle.po_ledger.specs.Indexed.{AreLeft}
 use Rattle.po_ledger.specs.Parts.{AddsEach, HandAt, NoneTakeable, primaries_of, primaries_below}
 use Rattle.po_ledger.specs.View.{LedgerView, IsKept}
 
@@ -119,18 +120,18 @@ module _ {P N T : Type 0} (b of_book : Book P N T) (same : of_book ≡ b) (l : L
     shelved = λ at tables h f table c. absurd (has [] (f, table) (subst (λ (z : List (FunNo × T)). Contains z (f, table)) (sym (no_tables many at tables (ap (λ (z : List (List (FunNo × T))). slice_get z at) (sym shelf) ∙ h))) c));
   }
 
-module _ {P N T : Type 0} (b of_book : Book P N T) (same : of_book ≡ b) (l old : LedgerView P N) (q : l ≡ old) (marks : List (Obl P × Mark P N)) (em : marks ≡ l.state.marks) (hands : List (Option (Hand P))) (eh : hands ≡ l.state.hands) where
+module _ {P N T : Type 0} (b of_book : Book P N T) (same : of_book ≡ b) (l old : LedgerView P N) (q : l ≡ old) (marks : List (Obl P × Mark P N)) (em : AreLeft l.state.marks marks) (hands : List (Option (Hand P))) (eh : hands ≡ l.state.hands) where
   pub find_some : (r : Option FileNo) → IfSome r (λ file. (¬ HandAt hands file) × ((o : Obl P) × Contains marks (o, Untaken) × (file_of_obl of_book o ≡ file))) → IfSome r (CanTake b old.state)
   find_some None h = h
   find_some (Some file) h =
       let free : ¬ HandAt l.state.hands file = subst (λ (z : List (Option (Hand P))). ¬ HandAt z file) eh h.0 in
-      let there : Contains l.state.marks (h.1.0, Untaken) = subst (λ (z : List (Obl P × Mark P N)). Contains z (h.1.0, Untaken)) em h.1.1 in
+      let there : Contains l.state.marks (h.1.0, Untaken) = (em.untaken h.1.0).0 h.1.1 in
       subst (λ (z : LedgerView P N). CanTake b z.state file) q (can_take b of_book same l.state file (free, (h.1.0, there, h.1.2)))
 
   pub find_none : (r : Option FileNo) → IfNone r (NoneTakeable of_book marks hands) → IfNone r ((file : FileNo) → ¬ CanTake b old.state file)
   find_none (Some file) h = h
   find_none None h =
-      let there : NoneTakeable of_book l.state.marks l.state.hands = λ o u. subst (λ (z : List (Option (Hand P))). HandAt z (file_of_obl of_book o)) eh (h o (subst (λ (z : List (Obl P × Mark P N)). Contains z (o, Untaken)) (sym em) u)) in
+      let there : NoneTakeable of_book l.state.marks l.state.hands = λ o u. subst (λ (z : List (Option (Hand P))). HandAt z (file_of_obl of_book o)) eh (h o ((em.untaken o).1 u)) in
       λ file c. none_takeable b of_book same l.state there file (subst (λ (z : LedgerView P N). CanTake b z.state file) (sym q) c)
 
 pub held_also : {P N : Type 0} (l old : LedgerView P N) (q : l ≡ old) (hands : List (Option (Hand P))) (eh : hands ≡ l.state.hands) → (((file : FileNo) × HandAt hands file) → ((file : FileNo) × IsHeld old.state file)) × (((file : FileNo) × IsHeld old.state file) → ((file : FileNo) × HandAt hands file))

@@ -1,15 +1,13 @@
 -- What the parts of a ledger's calls do to its lists.
-use Rattle.std.specs.Prelude.{ℕ, zero, suc, ◌≡◌, ◌<◌, ◌⊎◌, ◌↔◌, List, [], ◌∷◌, ◌++◌, length, map, slice_get, slice_index_or, Option, Some, None, Bool, IsTrue}
+use Rattle.std.specs.Prelude.{ℕ, zero, suc, ◌≡◌, ◌<◌, ◌⊎◌, ◌↔◌, List, [], ◌∷◌, ◌++◌, length, map, slice_get, slice_index_or, Option, Some, Bool, IsTrue}
 use Rattle.std.specs.List.{Contains}
 use Rattle.std.specs.List.Sorted.{IsPermutation, IsSortedByKey}
 use Rattle.std.specs.declared.cmp.Ordering.{Ordering}
-use Rattle.std.specs.declared.cmp.Ordering.TheVariants.{Greater}
 use Rattle.po_base.specs.declared.numbers.FileNo.{FileNo}
 use Rattle.po_base.specs.declared.numbers.FunNo.{FunNo}
 use Rattle.po_base.specs.declared.numbers.NodeNo.{NodeNo}
 use Rattle.po_core.specs.Book.{Book, file_of_obl}
 use Rattle.po_core.specs.Core.{AreApart}
-use Rattle.po_core.specs.Order.{obl_cmp}
 use Rattle.po_core.specs.declared.event.Hand.{Hand}
 use Rattle.po_core.specs.declared.event.Mark.{Mark}
 use Rattle.po_core.specs.declared.event.Mark.TheVariants.{Untaken, Taken, Settled}
@@ -39,15 +37,6 @@ pub record AddsEach {P N : Type 0} (os : List (Obl P)) (old new : List (Obl P ×
   pub there : (o : Obl P) → Contains os o → HasKey new o
   pub fresh : (o : Obl P) (m : Mark P N) → Contains more (o, m) → (m ≡ Untaken) × Contains os o × ¬ HasKey old o
   pub apart : AreApart (map (λ e. e.0) old) → AreApart (map (λ e. e.0) new)
-
--- the obligation comes after the greatest of others, where there is one; `by` compares predicates
-abbrev pub IsAbove : {P : Type 0} → (P → P → Ordering) → Obl P → Option (Obl P) → Type 0
-IsAbove by o None = Unit {0}
-IsAbove by o (Some last) = obl_cmp by o last ≡ Greater
-
--- no known obligation comes after the greatest
-abbrev pub AreUpTo : {P N : Type 0} → (P → P → Ordering) → List (Obl P × Mark P N) → Option (Obl P) → Type 0
-AreUpTo {P} by marks greatest = (o : Obl P) → HasKey marks o → ¬ IsAbove by o greatest
 
 -- which marks a remark means, and what they become
 abbrev pub old_mark : {P N : Type 0} → Remark P N → Mark P N

@@ -15,8 +15,8 @@ const ALONE: u8 = 0;
 
 /// Does all that is left to do of a ledger of which nobody holds a file: all is done afterwards. It waits for nobody,
 /// and ends, since no more can be settled than the rulebook can ask. After `Memory` nobody holds a file, and what was
-/// settled stays settled. Time: for each file that is taken the number of known obligations; for each obligation its
-/// verdict; and for each that delegates what a post takes.
+/// settled stays settled. Time: for each file that is taken what a take takes; for each obligation its verdict; and for each
+/// that delegates what a post takes.
 pub fn solve_alone<R: Rulebook, J: Naming<R::Pred, R::Rule, R::Table>>(
     alloc: Global,
     ledger: &mut Ledger<'_, R, J>,

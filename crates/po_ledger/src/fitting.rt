@@ -5,7 +5,7 @@ ghost use Rattle.po_core.specs.declared.obl.Verdict.{Verdict};
 ghost use Rattle.po_ledger.specs.Parts.{HandAt, HasVerdict, AgreesOn, IsHandOf};
 ghost use Rattle.po_ledger.specs.View.{items_of};
 
-use crate::marks::is_same;
+use crate::marks::{is_same, is_settled};
 use po_base::FileNo;
 use po_core::{Hand, Mark, Obl, Rulebook};
 
@@ -116,14 +116,4 @@ fn is_verdict_of<R: Rulebook>(
         return is_same(book, &entry.0, o);
     }
     false
-}
-
-/// Whether a mark is a verdict.
-fn is_settled<P: Copy, N: Copy>(mark: &Mark<P, N>) -> bool
-    ensures { IsTrue result ↔ ((v : Verdict P N) × (mark.now ≡ Settled v)) }
-{
-    match mark {
-        Mark::Settled(_) => true,
-        _ => false,
-    }
 }

@@ -12,8 +12,9 @@ ghost use Rattle.po_ledger.specs.View.{Fits, IsLedger};
 
 use crate::assumed::Assumed;
 use crate::fitting::{hand_at, is_hand_of};
+use crate::known::{Known, change, first_marks, settle_mark};
 use crate::log::{Log, append, into_events, make_room, no_events};
-use crate::marks::{Marks, Remark, change, first_marks, settle_mark};
+use crate::marks::Remark;
 use crate::naming::Naming;
 use crate::next::{Next, ReportFail};
 use crate::parts::{
@@ -37,10 +38,13 @@ use std::marker::{Model, PhantomData};
 ///
 /// Each call that changes a ledger is one legal event and appends just it to the journal, so the journal is
 /// legal from the start and replays to the ledger's state, whoever called in which order.
+///
+/// The ledger's rest are the obligations, in the order in which they became known, from the first on that wasn't settled
+/// when a file was last taken or put back. All that is untaken is of it, and the times below speak of it.
 #[derive(Drop)]
 pub struct Ledger<'r, R: Rulebook, J: Naming<R::Pred, R::Rule, R::Table>> {
     book: &'r R,
-    marks: Marks<R::Pred, R::Rule>,
+    marks: Known<R::Pred, R::Rule>,
     hands: Vec<Option<Hand<R::Pred>>>,
     assumed: Assumed<R::Pred>,
     shelves: Vec<List<(FunNo, R::Table)>>,
@@ -59,9 +63,8 @@ impl<'r, R: Rulebook, J: Naming<R::Pred, R::Rule, R::Table>> Model for Ledger<'r
 }
 
 impl<'r, R: Rulebook, J: Naming<R::Pred, R::Rule, R::Table>> Ledger<'r, R, J> {
-    /// A ledger over a rulebook in which the functions' own obligations are known and untaken. Time: the number of files
-    /// and that of the obligations, where they ascend in the order of obligations; for each that doesn't come after all
-    /// before it, their number.
+    /// A ledger over a rulebook in which the functions' own obligations are known and untaken. Time: the number of files,
+    /// and that of the obligations times its logarithm.
     pub fn new(alloc: Global, book: &'r R) -> Result<Ledger<'r, R, J>, Memory>
         requires { R.meaning book.now ≡ J.book }
         ensures { IfOk result (IsNew J.book) }
@@ -124,7 +127,7 @@ impl<'r, R: Rulebook, J: Naming<R::Pred, R::Rule, R::Table>> Ledger<'r, R, J> {
 
     /// Gives a worker all that is untaken in some file, which it holds from then on; or says that it has to wait,
     /// as some file is held and no other has untaken obligations; or that all is done. After `Memory` nothing has
-    /// changed. Time: the number of known obligations and of files.
+    /// changed. Time: the number of the rest and of files.
     pub fn take(&mut self, alloc: Global, worker: u8) -> Result<Next<R, J>, Memory>
         ensures ok { IfOk result (Answers J.book worker self.old self.new) }
         ensures err { OnErr result (self.new ≡ self.old) }
@@ -151,7 +154,7 @@ impl<'r, R: Rulebook, J: Naming<R::Pred, R::Rule, R::Table>> Ledger<'r, R, J> {
         ensures none { IfNone result ((file : FileNo) → ¬ CanTake J.book self.now.state file) }
     {
         legal_lists_are_orderly(self.book);
-        takeable(self.book, self.marks.as_slice(), self.hands.as_slice())
+        takeable(self.book, self.marks.left(), self.hands.as_slice())
     }
 
     /// Whether some file is held.
@@ -161,8 +164,8 @@ impl<'r, R: Rulebook, J: Naming<R::Pred, R::Rule, R::Table>> Ledger<'r, R, J> {
         any_held(self.hands.as_slice())
     }
 
-    /// Whether all is done: no file is held and nothing is untaken. It takes no memory. Time: the number of known
-    /// obligations and of files.
+    /// Whether all is done: no file is held and nothing is untaken. It takes no memory. Time: the number of the
+    /// rest and of files.
     pub fn quiet(&self) -> bool
         ensures { IsTrue result ↔ IsQuiet self.now.state }
     {
@@ -208,9 +211,10 @@ impl<'r, R: Rulebook, J: Naming<R::Pred, R::Rule, R::Table>> Ledger<'r, R, J> {
         ensures err { OnErr result (self.new ≡ self.old) }
     {
         legal_lists_are_orderly(self.book);
-        let items = untaken_of(alloc, self.book, self.marks.as_slice(), file)?;
+        let items = untaken_of(alloc, self.book, self.marks.left(), file)?;
         let hand = all_open(alloc, items.as_slice())?;
-        let places = untaken_places(alloc, self.book, self.marks.as_slice(), file)?;
+        let first = self.marks.first_left();
+        let places = untaken_places(alloc, self.book, self.marks.left(), first, file)?;
         make_room(&mut self.journal, items.len(), 3)?;
         change(self.book, &mut self.marks, &Remark::Take(file));
         append(&mut self.journal, Event::Take { worker, file });
@@ -240,7 +244,7 @@ impl<'r, R: Rulebook, J: Naming<R::Pred, R::Rule, R::Table>> Ledger<'r, R, J> {
     /// Assumes the predicate `q` of the function of an item of a ticket, whose verdict delegates to it: each call
     /// of the function has its supporting obligation afterwards, and those that are new are untaken. After
     /// `Memory` nothing has changed. Time: the logarithm of the number of assumptions, and the number of the calls times
-    /// that of known obligations.
+    /// the logarithm of that of known obligations.
     pub fn post(
         &mut self,
         alloc: Global,
@@ -319,7 +323,7 @@ impl<'r, R: Rulebook, J: Naming<R::Pred, R::Rule, R::Table>> Ledger<'r, R, J> {
 
     /// Makes a file free, whoever holds it: what isn't settled of its hand is untaken again. A ticket of the file
     /// doesn't fit from then on, at least until its worker holds the file again. It takes no memory. Time: the number
-    /// of known obligations.
+    /// of the rest.
     pub fn put_back(&mut self, file: FileNo)
         requires { IsHeld self.old.state file }
         ensures { Does J.book (PutBack file) self.old self.new }

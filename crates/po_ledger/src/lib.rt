@@ -6,12 +6,14 @@
 mod assumed;
 mod drain;
 mod fitting;
+mod known;
 mod ledger;
 mod log;
 mod marks;
 mod naming;
 mod next;
 mod parts;
+mod places;
 mod report;
 #[cfg(test)]
 mod sample;

@@ -9,8 +9,8 @@ ghost use Rattle.po_core.specs.declared.obl.Obl.{Obl};
 ghost use Rattle.po_ledger.specs.Parts.{HasKey, AddsEach, TakesFrom, HandAt, NoneTakeable, PushesUntaken, AddsItem, supports_of};
 
 use crate::assumed::{Assumed, assume};
+use crate::known::{Known, add_supports};
 use crate::log::{Log, make_room, take_room};
-use crate::marks::{Marks, add_supports};
 use po_base::{FileNo, FunNo, List, Memory, NodeNo};
 use po_core::{Hand, Mark, Obl, Rulebook};
 use std::alloc::Global;
@@ -75,7 +75,7 @@ pub(crate) fn is_untaken<P: Copy, N: Copy>(mark: Mark<P, N>) -> bool
     }
 }
 
-/// A file that can be taken, where there is one. Time: the number of known obligations.
+/// A file that can be taken, where there is one. Time: the number of marks.
 pub(crate) fn takeable<R: Rulebook>(
     book: &R,
     marks: &[(Obl<R::Pred>, Mark<R::Pred, R::Rule>)],
@@ -125,7 +125,7 @@ fn push_untaken<R: Rulebook>(
     Ok(())
 }
 
-/// The untaken obligations of a file. Time: the number of known obligations.
+/// The untaken obligations of a file. Time: the number of marks.
 pub(crate) fn untaken_of<R: Rulebook>(
     alloc: Global,
     book: &R,
@@ -144,12 +144,13 @@ pub(crate) fn untaken_of<R: Rulebook>(
     Ok(items)
 }
 
-/// Where the untaken obligations of a file stand among the marks, in their order: a hint, on which no answer rests. Time:
-/// the number of known obligations.
+/// Where the untaken obligations of a file stand among the marks, in their order, where the first mark stands at a place: a
+/// hint, on which no answer rests. Time: the number of marks.
 pub(crate) fn untaken_places<R: Rulebook>(
     alloc: Global,
     book: &R,
     marks: &[(Obl<R::Pred>, Mark<R::Pred, R::Rule>)],
+    first: usize,
     file: FileNo,
 ) -> Result<List<usize>, Memory>
     requires { (o : Obl R.Pred) → HasKey marks.now o → o.fun.0 < (R.meaning book.now).functions }
@@ -158,7 +159,7 @@ pub(crate) fn untaken_places<R: Rulebook>(
     for i in 0..marks.len() {
         let entry = marks[i];
         if is_untaken_in(book, &entry, file) {
-            places.push(i)?;
+            places.push(first.saturating_add(i))?;
         }
     }
     Ok(places)
@@ -182,7 +183,7 @@ pub(crate) fn all_open<P: Copy>(
 /// some obligations may have been added; all else is as it was.
 pub(crate) fn extend<R: Rulebook>(
     book: &R,
-    marks: &mut Marks<R::Pred, R::Rule>,
+    marks: &mut Known<R::Pred, R::Rule>,
     assumed: &mut Assumed<R::Pred>,
     journal: &mut Log<R::Pred, R::Rule>,
     sites: &[(FunNo, NodeNo)],

@@ -1,6 +1,9 @@
 use Rattle.po_ledger.proofs.Reported.{least_report}
 use Rattle.po_ledger.proofs.ledger.Ledger.least_report.Goals as goal
 
+pub ascending_lines-requires : goal.ascending_lines-requires
+ascending_lines-requires g c = rw c.as_slice.ensures.value c.self.invariant.apart
+
 pub ascending_assumptions-requires : goal.ascending_assumptions-requires
 ascending_assumptions-requires g c = rw c.as_slice-2.ensures c.self.invariant.assumed_apart
 

@@ -1,6 +1,6 @@
 use Rattle.std.proofs.Common.{◌∙◌}
 use Rattle.po_ledger.proofs.Adds.{adds_none, adds_more}
-use Rattle.po_ledger.proofs.marks.add_supports.Goals as goal
+use Rattle.po_ledger.proofs.known.add_supports.Goals as goal
 
 pub loop-site-init : goal.loop-site-init
 loop-site-init g c = adds_none _
