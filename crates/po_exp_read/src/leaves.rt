@@ -1,7 +1,8 @@
-ghost use Rattle.std.specs.Prelude.{ℕ, ◌≡◌, ◌≤◌, ◌<◌, ◌+◌, ◌∷◌, length, IfOk, MatchOption};
+ghost use Rattle.std.specs.Prelude.{ℕ, ◌≡◌, ◌≤◌, ◌<◌, ◌+◌, ◌∷◌, ◌↔◌, IsTrue, Contains, length, IfOk, MatchOption};
 ghost use Rattle.std.specs.Prelude.{List as Sequence};
 ghost use Rattle.po_tree.specs.declared.expression.Exp.{Exp as Tree};
 ghost use Rattle.po_tree.specs.Signs.{Sign, sign_of};
+ghost use Rattle.po_tree.specs.Words.{IsName};
 ghost use Rattle.po_tree.specs.Expressions.{IsLeaf};
 ghost use Rattle.po_exp_read.specs.declared.continuation.Continuation.{Continuation as Next};
 ghost use Rattle.po_exp_read.specs.declared.continuation.Continuation.TheVariants as c;
@@ -16,7 +17,7 @@ use crate::literals::{is_character, is_integer};
 use crate::operators::{continuation_of, least, level};
 use crate::places::{name_at, string_at};
 use crate::words::is_name;
-use po_base::{List, Memory, Token, TokenKind};
+use po_base::{List, Memory, Text, Token, TokenKind};
 use po_tree::{Exp, Names, Selector};
 use std::alloc::Global;
 
@@ -43,6 +44,16 @@ pub(crate) fn continuation_at(
     Some(next)
 }
 
+/// Whether a word is a name that is no typedef name.
+fn is_variable(text: &Text, names: &Names) -> bool
+    ensures { IsTrue result ↔ (IsName text.now × (Contains names.now.typedefs text.now → ⊥)) }
+{
+    if !is_name(text.bytes()) {
+        return false;
+    }
+    !names.is_type(text)
+}
+
 /// The operand of one token.
 fn leaf_of(token: &Token, names: &Names) -> Result<Option<Exp>, Memory>
     ensures { IfOk result (λ found. MatchOption found ((x : Tree) → IsLeaf names.now.typedefs x (sign_of token.now) → ⊥) (λ x. IsLeaf names.now.typedefs x (sign_of token.now))) }
@@ -50,10 +61,7 @@ fn leaf_of(token: &Token, names: &Names) -> Result<Option<Exp>, Memory>
     let text = &token.text;
     match token.kind {
         TokenKind::Word => {
-            if !is_name(text.bytes()) {
-                return Ok(None);
-            }
-            if names.is_type(text) {
+            if !is_variable(text, names) {
                 return Ok(None);
             }
             Ok(Some(Exp::Var(text.share()?)))

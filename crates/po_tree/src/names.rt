@@ -164,6 +164,16 @@ fn is_typedef(specs: &[Specifier]) -> bool
     false
 }
 
+/// Whether a name is in one of two sets.
+fn is_in_either(name: &Text, one: &OrdList<Text>, other: &OrdList<Text>) -> bool
+    ensures { IsTrue result ↔ (Contains one.now name.now ⊎ Contains other.now name.now) }
+{
+    if has(one, name) {
+        return true;
+    }
+    has(other, name)
+}
+
 /// The names of a set that are in neither of two others.
 fn kept(
     alloc: Global,
@@ -175,10 +185,7 @@ fn kept(
 {
     let mut kept = OrdList::new(alloc);
     for name in set.iter() {
-        if has(one, name) {
-            continue;
-        }
-        if has(other, name) {
+        if is_in_either(name, one, other) {
             continue;
         }
         add(&mut kept, name)?;

@@ -5,16 +5,17 @@ use Rattle.po_exp_read.proofs.Telling.{none_told}
 use Rattle.po_exp_read.proofs.SingleTokens.{word_leaf, leaf_along}
 use Rattle.po_exp_read.proofs.leaves.leaf_of.Goals as goal
 
-pub returns-then-not-is_name : goal.returns-then-not-is_name
-returns-then-not-is_name c = λ x w. none_told c.if-not-is_name.ensures (rw c.bytes.ensures (word_leaf w c.in-Word.is).0)
+pub returns-then-not-is_variable : goal.returns-then-not-is_variable
+returns-then-not-is_variable c = λ x w. none_told c.if-not-is_variable.ensures (word_leaf w c.in-Word.is)
 
 pub returns-in_ok-share-in-Word : goal.returns-in_ok-share-in-Word
 returns-in_ok-share-in-Word c =
-    leaf_along (sign_of c.args.token.now) k.Word c.in-Word.is (rw c.in_ok-share-in-Word.ensures (variable _ (rw c.bytes.ensures at (c.is_name.ensures.0 c.if-not-is_name.false)) (none_told c.if-is_type.ensures)))
+    let is = c.is_variable.ensures.0 c.if-not-is_variable.false in
+    leaf_along (sign_of c.args.token.now) k.Word c.in-Word.is (rw c.in_ok-share-in-Word.ensures (variable _ is.0 is.1))
 
 pub returns-in_ok-share-in-Number : goal.returns-in_ok-share-in-Number
 returns-in_ok-share-in-Number c =
-    leaf_along (sign_of c.args.token.now) k.Number c.in-Number.is (rw c.in_ok-share-in-Number.ensures (integer _ (rw c.bytes-in-Number.ensures at (c.is_integer.ensures.0 c.if-not-is_integer.false))))
+    leaf_along (sign_of c.args.token.now) k.Number c.in-Number.is (rw c.in_ok-share-in-Number.ensures (integer _ (rw c.bytes.ensures at (c.is_integer.ensures.0 c.if-not-is_integer.false))))
 
 pub returns-in_ok-share-in-Char : goal.returns-in_ok-share-in-Char
 returns-in_ok-share-in-Char c =

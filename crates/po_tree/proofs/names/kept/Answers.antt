@@ -10,21 +10,14 @@ pub loop-name-preserved : goal.loop-name-preserved
 loop-name-preserved c =
     let i = c.loop-name.invariant in (
       rw (map_push (λ x. x.now) c.loop-name.yielded c.in-Some.name)
-          (keeps_more _ _ i.0 (λ h. absurd {A = ⊥} (cc (c.if-has.ensures.1 h))) (λ h. absurd {A = ⊥} (cc (c.if-has-2.ensures.1 h))) c.in_ok-add.ensures),
+          (keeps_more _ _ i.0 (λ h. absurd {A = ⊥} (cc (c.if-is_in_either.ensures.1 (inl h)))) (λ h. absurd {A = ⊥} (cc (c.if-is_in_either.ensures.1 (inr h)))) c.in_ok-add.ensures),
       walks_on (λ x. x.now) _ c.loop-name.yielded c.in-Some.name _ _ i.1 c.in-Some.ensures.steps,
     )
 
-pub loop-name-preserved-then-has : goal.loop-name-preserved-then-has
-loop-name-preserved-then-has c =
+pub loop-name-preserved-then-is_in_either : goal.loop-name-preserved-then-is_in_either
+loop-name-preserved-then-is_in_either c =
     let i = c.loop-name.invariant in (
-      rw (map_push (λ x. x.now) c.loop-name.yielded c.in-Some.name) (keeps_same _ _ i.0 (inl (c.if-has.ensures.0 refl))),
-      walks_on (λ x. x.now) _ c.loop-name.yielded c.in-Some.name _ _ i.1 c.in-Some.ensures.steps,
-    )
-
-pub loop-name-preserved-then-has-2 : goal.loop-name-preserved-then-has-2
-loop-name-preserved-then-has-2 c =
-    let i = c.loop-name.invariant in (
-      rw (map_push (λ x. x.now) c.loop-name.yielded c.in-Some.name) (keeps_same _ _ i.0 (inr (c.if-has-2.ensures.0 refl))),
+      rw (map_push (λ x. x.now) c.loop-name.yielded c.in-Some.name) (keeps_same _ _ i.0 (c.if-is_in_either.ensures.0 refl)),
       walks_on (λ x. x.now) _ c.loop-name.yielded c.in-Some.name _ _ i.1 c.in-Some.ensures.steps,
     )
 
