@@ -1,4 +1,4 @@
-ghost use Rattle.std.specs.Prelude.{◌≡◌, [], ◌∷◌, ◌++◌, ◌<◌, ◌≤◌, ◌+◌, ℕ, length, slice_get, slice_set, take, ◌↔◌, IsTrue, IfOk, MatchOption, OnOk, OnErr, OnSome};
+ghost use Rattle.std.specs.Prelude.{◌≡◌, [], ◌∷◌, ◌++◌, ◌<◌, ◌≤◌, ◌+◌, ◌^◌, ℕ, length, slice_get, slice_set, take, ◌↔◌, IsTrue, IfOk, MatchOption, OnOk, OnErr, OnSome};
 ghost use Rattle.std.specs.Option.{option_copied};
 ghost use Rattle.std.specs.Cmp.Lexicographic.{pointwise, slice_cmp, slice_partial_cmp, lists_equiv, lists_agrees, lists_total, lists_ties, lists_per, lists_po};
 
@@ -91,9 +91,12 @@ impl<T> List<T> {
 }
 
 impl<T> List<T> {
-    /// Makes room for `more` further items at once. The items are the same, also after `Memory`.
+    /// Makes room for `more` further items at once. The items are the same, also after `Memory`. After `Ok` so many
+    /// items more are a length that a machine word holds; of pushes nothing is promised, since spare room is no part of
+    /// what contracts see of a list: [`Roomy`](crate::Roomy) promises that too.
     pub fn reserve(&mut self, more: usize) -> Result<(), Memory>
-        ensures { self.new ≡ self.old }
+        ensures items { self.new ≡ self.old }
+        ensures fits { OnOk result (length self.old + more < 2 ^ 64) }
     {
         self.items.reserve(more)?;
         Ok(())
