@@ -30,15 +30,15 @@ pub fn legal_lists_are_orderly<R: Rulebook>(book: &R)
     let _book = book;
 }
 
-/// No legal list of events settles more obligations than the rulebook can ever ask, so work comes to an end. It
-/// does nothing.
+/// No legal list of events settles more obligations than the rulebook can ever ask. Nothing is said of how often a file
+/// is taken and put back, or a worker asks. It does nothing.
 pub fn settles_are_bounded<R: Rulebook>(book: &R)
     ensures { (es : List (Event R.Pred R.Rule)) (s : CoreState R.Pred R.Rule) → Replays (R.meaning book.now) es s → settle_count es ≤ most_obligations (R.meaning book.now) }
 {
     let _book = book;
 }
 
-/// A rulebook has one least report, with one order of its lines. It does nothing.
+/// A rulebook has one least report at most, with one order of its lines. It does nothing.
 pub fn least_report_is_one<R: Rulebook>(book: &R)
     ensures { (r s : Report R.Pred R.Rule) → IsLeastReport R.Pred.cmp (R.meaning book.now) r → IsLeastReport R.Pred.cmp (R.meaning book.now) s → r ≡ s }
 {

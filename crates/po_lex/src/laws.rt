@@ -19,7 +19,7 @@ pub fn one_division()
     ensures { (bytes : Items ℕ) (xs ys : Items Part) → Divides start xs bytes [] → Divides start ys bytes [] → xs ≡ ys }
 {}
 
-/// A file of one name has one list of tokens at most, and one list of names.
+/// A file of one name has one list of tokens at most, and one list of names at most.
 pub fn one_token_list()
     ensures { (name bytes : Items ℕ) (xs ys : Lists) → AreTokens name bytes xs → AreTokens name bytes ys → xs ≡ ys }
 {}
@@ -31,7 +31,7 @@ pub fn tokens_or_failure()
     ensures few { (name bytes : Items ℕ) (xs : Lists) → AreTokens name bytes xs → HasTooMany bytes → ⊥ }
 {}
 
-/// A file fails on one line, in one way.
+/// A file fails on one line at most, and in one way.
 pub fn one_failure()
     ensures { (bytes : Items ℕ) (l m : ℕ) (b d : Bool) → Fails bytes l b → Fails bytes m d → (l ≡ m) × (b ≡ d) }
 {}
@@ -41,7 +41,7 @@ pub fn texts_stand_in_order()
     ensures { (name bytes : Items ℕ) (tokens : Lists) → AreTokens name bytes tokens → StandInOrder (map (λ t. t.text) tokens.list) bytes }
 {}
 
-/// Of the tokens of a file just one list is kept.
+/// Of the tokens of a file one list is kept at most.
 pub fn one_kept_list()
     ensures { (before : Before) (tokens xs ys : Items Placed) → Keeps before tokens xs → Keeps before tokens ys → xs ≡ ys }
 {}
@@ -56,7 +56,7 @@ pub fn pieces_or_failure()
     ensures { (tokens : Items Placed) (xs : Items Range) (line : ℕ) → ArePieces tokens xs → IsMisshapen tokens line → ⊥ }
 {}
 
-/// Tokens fail to have pieces on one line.
+/// Tokens fail to have pieces on one line at most.
 pub fn one_shape_failure()
     ensures { (tokens : Items Placed) (l m : ℕ) → IsMisshapen tokens l → IsMisshapen tokens m → l ≡ m }
 {}

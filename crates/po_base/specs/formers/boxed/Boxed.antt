@@ -58,7 +58,7 @@ module _ (R S : RattleType) (over_value : R.Denot → S.Denot) where
       (boxed.the_row R).coded (boxed.the_row S).coded (invariant R.Denot) (invariant S.Denot)
       (λ u p q. refl) (λ u p q. refl) (λ u e. tt) (λ u e. tt) (over (inside.the_row R)) (over (inside.the_row S))
       (struct_places (inside.the_type R) (inside.the_type S) ((λ b. with_value b (over_value b.value)), tt) _ (λ d. refl) refl
-          (laid _ _ _ (boxes_lie_alike alike), tt))
+      (laid _ _ _ (boxes_lie_alike alike), tt))
 
   pub the_codes_placed : Recodes R S over_value → Recodes (boxed.the_row R) (boxed.the_row S) ((the_former this).map R.Denot S.Denot over_value)
   the_codes_placed recodes value = recodes value

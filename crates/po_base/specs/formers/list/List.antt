@@ -49,7 +49,7 @@ module _ (R S : RattleType) (over_items : R.Denot → S.Denot) where
       (item_list.the_row R).coded (item_list.the_row S).coded (invariant R.Denot) (invariant S.Denot)
       (λ u p q. refl) (λ u p q. refl) (λ u e. tt) (λ u e. tt) (over (inside.the_row R)) (over (inside.the_row S))
       (struct_places (inside.the_type R) (inside.the_type S) (vector.mapped over_items, tt) _ (λ d. refl) refl
-          (laid _ _ _ (vector.the_places heap.the_row ghosts R S over_items alike), tt))
+      (laid _ _ _ (vector.the_places heap.the_row ghosts R S over_items alike), tt))
 
   pub the_codes_placed : Recodes R S over_items → Recodes (item_list.the_row R) (item_list.the_row S) ((the_former this).map R.Denot S.Denot over_items)
   the_codes_placed recodes items = sym (code_map R.coded.code S.coded.code over_items (λ item. sym (recodes item)) items)
