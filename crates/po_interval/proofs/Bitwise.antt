@@ -51,7 +51,8 @@ below_from_bits n k none =
     let zero_bits = λ (i : ℕ). ap (λ (m : ℕ). m % 2) (div-div-eq-div-mul n (2 ^ k) (2 ^ i) ∙ ap (λ (m : ℕ). n / m) (sym (pow-add 2 k i))) ∙ none (k + i) (omega arith) ∙ sym (bit_at_above 0 0 i (omega arith) (omega arith)) in
     let gone : n / 2 ^ k ≡ 0 = same_from_bits (n / 2 ^ k) 0 zero_bits in
     let rest = lt-div-mul-add {a = n} {b = 2 ^ k} (pow_pos k) in
-    subst (λ (m : ℕ). n < m * 2 ^ k + 2 ^ k) gone rest
+    let less : n < 0 * 2 ^ k + 2 ^ k = subst (λ (m : ℕ). n < m * 2 ^ k + 2 ^ k) gone rest in
+    omega arith
 
 below_power : (m : ℕ) → m < 2 ^ m
 below_power zero = omega arith
@@ -162,8 +163,8 @@ pub filled_holds : (v : ℤ) → FitsSigned w128 v → pos 0 ≤ℤ v → (v <�
 filled_holds (pos n) fits some =
     let size = fits.sfits in
     let found = leading_length 128 n (omega arith) in
-    let same : 128 - leading_zeros w128 n ≡ found.0 = omega (arith, found.1.0) in
-    let held = found.1.1 in
-    let least = found.1.2 in
+    let same : 128 - leading_zeros w128 n ≡ found.0 = omega (arith, found.1) in
+    let held = found.2 in
+    let least = found.3 in
     rw same (omega (arith, ints), omega (arith, ints))
 filled_holds (negsuc n) fits some = absurd (omega (arith, ints))

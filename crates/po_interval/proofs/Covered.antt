@@ -97,14 +97,14 @@ low_cut_low low None = omega (arith, ints)
 low_cut_low low (Some v) = omega (arith, ints, clamps)
 
 pub cut_low : (low high : ℤ) (a : Interval) (s : Range) → cut low high a ≡ Some s → low ≤ℤ s.lo
-cut_low low high a s same = let is = (some_range_is _ _ s same).0 in let above = low_cut_low low a.lo in omega (arith, ints)
+cut_low low high a s same = let is = (some_range_is (low_cut low a.lo) (high_cut high a.hi) s same).0 in let above = low_cut_low low a.lo in omega (arith, ints)
 
 high_cut_high : (high : ℤ) (end : Option ℤ) → high_cut high end ≤ℤ high
 high_cut_high high None = omega (arith, ints)
 high_cut_high high (Some v) = omega (arith, ints, clamps)
 
 pub cut_high : (low high : ℤ) (a : Interval) (s : Range) → cut low high a ≡ Some s → s.hi ≤ℤ high
-cut_high low high a s same = let is = (some_range_is _ _ s same).1 in let below = high_cut_high high a.hi in omega (arith, ints)
+cut_high low high a s same = let is = (some_range_is (low_cut low a.lo) (high_cut high a.hi) s same).1 in let below = high_cut_high high a.hi in omega (arith, ints)
 
 second_high : (op : Op) (t : IntType) (b : Interval) (s : Range) → second op t b ≡ Some s → takes_count op ≡ false → s.hi ≤ℤ greatest t
 second_high op t b s same kind = cut_high (least t) (greatest t) b s (subst (λ (k : Bool). cond k (counts t b) (part t b) ≡ Some s) kind same)

@@ -14,7 +14,7 @@ use Rattle.po_arith.specs.declared.interval.Interval.{Interval}
 use Rattle.po_arith.specs.declared.range.Range.{Range}
 use Rattle.po_arith.specs.Types.{IsIntType, least, greatest}
 use Rattle.po_interval.specs.Within.{interval_within}
-use Rattle.po_interval.specs.Ranges.{range, IsPart, AreWithin, some_range, cut, part, counts, sums, differences, products, negatives, positives, both, over, quotients, most_left, least_left, greatest_left, remainders, all, conjunctions, bits_of, filled, disjunctions, shifted_up, shifted_down, shifts_up, shifts_down, outcomes, takes_count, second, settled, of_parts, un_outcomes, of_part}
+use Rattle.po_interval.specs.Ranges.{range, IsPart, AreWithin, some_range, low_cut, high_cut, cut, part, counts, sums, differences, products, negatives, positives, both, over, quotients, most_left, least_left, greatest_left, remainders, all, conjunctions, bits_of, filled, disjunctions, shifted_up, shifted_down, shifts_up, shifts_down, outcomes, takes_count, second, settled, of_parts, un_outcomes, of_part}
 use Rattle.po_interval.specs.Results.{BinIsMonotone, UnIsMonotone}
 use Rattle.po_interval.proofs.Ends.{le_tells, le_since}
 use Rattle.po_interval.proofs.Corners.{IsAny, IsPositive, IsNegative, IsNatural, corners_monotone, products_go, positive_quotients_go, negative_quotients_go, shifts_go, pow_up}
@@ -72,9 +72,9 @@ greatest_left_part hi hi' most most' high more some = by (int_le hi (pos 0)) (in
   where
     by : (b c : Bool) → int_le hi (pos 0) ≡ b → int_le hi' (pos 0) ≡ c → cond b (pos 0) (int_min hi most) ≤ℤ cond c (pos 0) (int_min hi' most')
     by true true test other = omega (arith, ints)
-    by true false test other = let more = le_false hi' (pos 0) other in omega (arith, ints, clamps)
+    by true false test other = let above = le_false hi' (pos 0) other in omega (arith, ints, clamps)
     by false false test other = omega (arith, ints, clamps)
-    by false true test other = let more = le_false hi (pos 0) test in let down = le_tells hi' (pos 0) other in absurd (omega (arith, ints))
+    by false true test other = let above = le_false hi (pos 0) test in let down = le_tells hi' (pos 0) other in absurd (omega (arith, ints))
 
 most_part : (s v : Range) → IsPart (Some s) (Some v) → most_left s ≤ℤ most_left v
 most_part s v other = let low = other.0 in let high = other.1 in omega (arith, ints, clamps)
@@ -82,6 +82,9 @@ most_part s v other = let low = other.0 in let high = other.1 in omega (arith, i
 remainders_part : (r s u v : Range) → IsPart (Some r) (Some u) → IsPart (Some s) (Some v) → IsPart (remainders r s) (remainders u v)
 remainders_part r s u v one other = by (int_le (pos 0) (most_left s)) (int_le (pos 0) (most_left v)) refl refl
   where
+    below : (x y : ℤ) → x ≤ℤ y → pos 0 ≤ℤ x → y <ℤ pos 0 → ⊥
+    below x y up some less = absurd (omega (arith, ints))
+
     more : most_left s ≤ℤ most_left v
     more = most_part s v other
 
@@ -91,9 +94,6 @@ remainders_part r s u v one other = by (int_le (pos 0) (most_left s)) (int_le (p
         let some = le_tells (pos 0) (most_left s) test in
         (least_left_part r.lo u.lo (most_left s) (most_left v) one.0 more some, greatest_left_part r.hi u.hi (most_left s) (most_left v) one.1 more some)
     by true false test other_test = absurd (below (most_left s) (most_left v) more (le_tells (pos 0) (most_left s) test) (le_false (pos 0) (most_left v) other_test))
-
-    below : (x y : ℤ) → x ≤ℤ y → pos 0 ≤ℤ x → y <ℤ pos 0 → ⊥
-    below x y up some less = absurd (omega (arith, ints))
 
 -- numbers of the type
 pub record IsOf (t : IntType) (r : Range) : Type 0 where
@@ -227,7 +227,7 @@ outcomes_monotone op.Gt t r s u v is r_of u_of s_up of count one other = (omega 
 outcomes_monotone op.Ge t r s u v is r_of u_of s_up of count one other = (omega (arith, ints), omega (arith, ints))
 
 cut_up : (low high : ℤ) (a : Interval) (s : Range) → cut low high a ≡ Some s → s.lo ≤ℤ s.hi
-cut_up low high a s same = up_of _ _ s same
+cut_up low high a s same = up_of (low_cut low a.lo) (high_cut high a.hi) s same
 
 part_of : (t : IntType) (a : Interval) (r : Range) → part t a ≡ Some r → IsOf t r
 part_of t a r same = record { low = cut_low (least t) (greatest t) a r same; up = cut_up (least t) (greatest t) a r same; high = cut_high (least t) (greatest t) a r same }

@@ -74,7 +74,7 @@ insert_ascending (x ∷ xs) v (low, up) = by (insert_ascending xs v up) (int_cmp
     later less w (inr rest) = low w rest
 
     by : IsAscending (insert_key int_cmp xs v) → (o : Ordering) → MatchOrdering o (v <ℤ x) (v ≡ x) (x <ℤ v) → IsAscending (match_ordering o (v ∷ x ∷ xs) (x ∷ xs) (x ∷ insert_key int_cmp xs v))
-    by rest Less rank = (first rank, low, up)
+    by rest Less rank = (first rank, (low, up))
     by rest Equal rank = (low, up)
     by rest Greater rank = (λ w here. later rank w (from_insert xs v w here), rest)
 

@@ -212,14 +212,14 @@ pub record IsShort (r : Range) : Type 0 where
   pub up : r.lo ≤ℤ r.hi
   pub high : r.hi <ℤ pos (2 ^ 64)
 
--- a number as far as the types reach: cut to what lies a little beyond them
-abbrev pub near : ℤ → ℤ
-near v = int_max (neg_ℤ (pos (2 ^ 65))) (int_min v (pos (2 ^ 65)))
+-- the same number, or both beyond the numbers of every type, on one side
+abbrev pub AreAlike : ℤ → ℤ → Type 0
+AreAlike v w = (v ≡ w) ⊎ (((pos (2 ^ 64) ≤ℤ v) × (pos (2 ^ 64) ≤ℤ w)) ⊎ ((v ≤ℤ neg_ℤ (pos (2 ^ 64))) × (w ≤ℤ neg_ℤ (pos (2 ^ 64)))))
 
 -- as far as the types reach the ranges are the same
 pub record EndsAlike (r s : Range) : Type 0 where
-  pub low : near r.lo ≡ near s.lo
-  pub high : near r.hi ≡ near s.hi
+  pub low : AreAlike r.lo s.lo
+  pub high : AreAlike r.hi s.hi
   pub first_up : r.lo ≤ℤ r.hi
   pub second_up : s.lo ≤ℤ s.hi
 
