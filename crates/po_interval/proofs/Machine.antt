@@ -1,6 +1,6 @@
 -- What the machine's 128 bits hold.
-use Rattle.std.proofs.Common.{◌≡◌, ◌≤◌, ◌<◌, ◌+◌, ◌-◌, ◌*◌, ◌/◌, ◌%◌, ◌^◌, ℕ, zero, suc, Bool, true, false, cond, arith, sym, refl, ap, ◌∙◌, inl, inr, min, FitsSigned, to_z, lit<}
-use Rattle.std.specs.Prelude.{◌&&◌, ℤ, pos, negsuc, neg_ℤ, ◌≤ℤ◌, ◌<ℤ◌, ◌+ℤ◌, ◌-ℤ◌, ◌*ℤ◌, ◌⊎◌, Option, Some, None, int_le, int_div, unsigned_abs}
+use Rattle.std.proofs.Common.{◌≡◌, ◌≤◌, ◌<◌, ◌-◌, ◌*◌, ◌%◌, ◌^◌, ℕ, suc, Bool, true, false, cond, arith, sym, refl, ap, ◌∙◌, inl, inr, min, FitsSigned, to_z, lit<}
+use Rattle.std.specs.Prelude.{ℤ, pos, negsuc, neg_ℤ, ◌≤ℤ◌, ◌<ℤ◌, ◌*ℤ◌, ◌⊎◌, Some, None, int_le, int_div, unsigned_abs}
 use Rattle.std.specs.Int.{int_min, int_max, saturate_signed, w128}
 use Rattle.std.proofs.lemmas.Int.{ints, clamps, to_z_pos, fits_signed_mul, by_lt_z}
 use Rattle.std.proofs.lemmas.Bool.{and_left, and_right, cond-true, cond-false, cases_lt}
@@ -13,7 +13,6 @@ use Rattle.po_arith.specs.Types.{IsIntType, least, greatest}
 use Rattle.po_interval.specs.Ranges.{range, interval, some_range, as_interval, whole, part, conv_interval, corners, bits_of, shifted_up, shifts_up, AreAlike, EndsAlike}
 use Rattle.po_interval.specs.Within.{interval_within}
 use Rattle.po_interval.proofs.Corners.{pow_up}
-use Rattle.po_interval.proofs.Covers.{le_false}
 use Rattle.po_interval.proofs.Bitwise.{small, fits_between, filled_holds}
 use Rattle.po_interval.proofs.Disjunctions.{few_enough}
 
