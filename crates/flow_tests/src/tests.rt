@@ -11,6 +11,7 @@ const NONE: u32 = u32::MAX;
 struct Evaluations;
 
 /// A flow and its least table, which was written down by hand.
+#[derive(Drop)]
 struct Row {
     exits: &'static [(u32, u32)],
     gains: &'static [u32],
