@@ -3,7 +3,7 @@ use Rattle.std.proofs.Common.{◌≡◌, ◌≢◌, ℕ, ◌+◌, ◌-◌, ◌*�
 use Rattle.std.proofs.Math.ListN.{set, length-set}
 use Rattle.std.proofs.Math.Nat.{mul-le-mul_left}
 use Rattle.std.specs.List.{Contains}
-use Rattle.std.proofs.lemmas.Bool.{cases_eq}
+use Rattle.std.proofs.lemmas.Bool.{cases_Bool, cases_eq}
 use Rattle.std.proofs.lemmas.List.{get_or-set_same, get_or-set_other, get_or-replicate, get_or_read, length-replicate}
 use Rattle.po_base.specs.declared.numbers.NodeNo.{NodeNo}
 use Rattle.po_flow.specs.Counting.{AreCounted, AreRises, NoneStands, counted_on, edge_count, leaving, sum_below, sum_over_edges}
@@ -14,7 +14,7 @@ use Rattle.po_flow.specs.Waiting.{IsTaken, IsWaiting, NoneWaits}
 use Rattle.po_flow.specs.Working.{HoldsOrWaits, IsFirst, IsUnderWay, IsWork, PaysWaits, Rises, wait_of}
 use Rattle.po_flow.specs.declared.work.Work.{Work}
 use Rattle.po_flow.proofs.Rising.{at_each, below_along, below_itself, stays}
-use Rattle.po_flow.proofs.Sums.{sum_below-but_one, sum_below-bound, sum_below-le, sum_below-one_more, sum_below-pays, sum_below-times}
+use Rattle.po_flow.proofs.Sums.{sum_below-but_one, sum_below-bound, sum_below-le, sum_below-none, sum_below-one_more, sum_below-pays, sum_below-same, sum_below-times}
 
 same_node : (n m : NodeNo) → n.0 ≡ m.0 → n ≡ m
 same_node n m q = λ i. record { 0 = q i }
@@ -39,6 +39,16 @@ carried size steps more done weight old new before taken after n long is pays fe
     let paid = sum_below-pays size weight old (wait_of taken) new (wait_of after) pays in
     let a = sum_below-one_more size weight old in
     let b = sum_below-one_more size weight new in
+    omega arith
+
+waits_up : (before after : List Bool) (k : ℕ) → (IsWaiting before k → IsWaiting after k) → wait_of before k ≤ wait_of after k
+waits_up before after k up = elim (cases_Bool (get_or before k false)) [ inl t ↦ rw (t, up t) (omega arith) | inr f ↦ rw f (omega arith) ]
+
+-- one node taken, and each of its edges evaluated: each edge was evaluated or its source waits
+evaluated : (size steps done all : ℕ) (weight : ℕ → ℕ) (before taken after : List Bool) (n : NodeNo) → length before ≡ size → IsTaken before n taken → ((k : ℕ) → IsWaiting taken k → IsWaiting after k) → counted_on steps (weight n.0) ≤ done → counted_on 0 all ≤ steps + sum_below size (λ k. weight k * wait_of before k) → counted_on 0 all ≤ done + sum_below size (λ k. weight k * wait_of after k)
+evaluated size steps done all weight before taken after n long is up enough over =
+    let less = waits_less size weight before taken n long is in
+    let more = sum_below-le size (λ k. weight k * wait_of taken k) (λ k. weight k * wait_of after k) (λ k _. mul-le-mul_left (weight k) (waits_up taken after k (up k))) in
     omega arith
 
 -- how far the ranks are from their bound, and how many nodes wait
@@ -68,8 +78,8 @@ module _ {S : Type 0} (f : Flows S) (proper : S → Type 0) (law : IsLawful f pr
     still_waits : (k : ℕ) → k ≢ n.0 → IsWaiting a.list k → IsWaiting taken k
     still_waits k d h = ap (λ t. get_or t k false) is.2 ∙ get_or-set_other a.list n.0 k false false d ∙ h
 
-    pub goes_on : (first : List S) (steps done : ℕ) → IsTable f proper first → IsUnderWay f proper first a steps → Rises f proper at_taken b → ((m : NodeNo) → Contains (f.nexts n) m → HoldsOrWaits f b n m) → done ≤ steps + length (f.nexts n) → IsUnderWay f proper first b done
-    goes_on first steps done tf u r edges few = record {
+    pub goes_on : (first : List S) (steps done : ℕ) → IsTable f proper first → IsUnderWay f proper first a steps → Rises f proper at_taken b → ((m : NodeNo) → Contains (f.nexts n) m → HoldsOrWaits f b n m) → done ≤ steps + length (f.nexts n) → counted_on steps (length (f.nexts n)) ≤ done → IsUnderWay f proper first b done
+    goes_on first steps done tf u r edges few enough = record {
       is_work = r.is_work;
       above = below_along f proper law first a.table b.table tf u.is_work.is_table r.is_work.is_table u.above r.above;
       under = λ other to co h. r.under other to co (u.under other to co h);
@@ -84,6 +94,7 @@ module _ {S : Type 0} (f : Flows S) (proper : S → Type 0) (law : IsLawful f pr
                   | inr waits ↦ inr (r.waits i.0 (still_waits i.0 d waits))
                 ]
           ];
+      at_least = evaluated f.size steps done (edge_count f) (leaving f) a.list taken b.list n u.is_work.listed is r.waits enough u.at_least;
       by_rank = carried f.size steps 0 done (leaving f) (λ k. f.rank (state f a.table k)) (λ k. f.rank (state f b.table k)) a.list taken b.list n u.is_work.listed is r.ranks few u.by_rank;
       by_rises = λ none. carried f.size steps 0 done (leaving f) (λ k. get_or a.rises k 0) (λ k. get_or b.rises k 0) a.list taken b.list n u.is_work.listed is (r.counts none) few (u.by_rises (r.stood none));
     }
@@ -115,6 +126,9 @@ module _ {S : Type 0} (f : Flows S) (proper : S → Type 0) (law : IsLawful f pr
         above = below_itself f proper law first table;
         under = λ other to co h. h;
         edges = λ n m edge. inr (get_or-replicate f.size n.0 true false edge.0);
+        at_least =
+            let same = sum_below-same f.size (λ k. leaving f k * wait_of (replicate f.size true) k) (λ k. leaving f k * 1) (λ k l. ap (λ b. leaving f k * cond b 1 0) (get_or-replicate f.size k true false l)) in
+            omega arith;
         by_rank = let le = sum_below-le f.size _ _ (ones (λ k. f.rank (state f first k))) in omega arith;
         by_rises = λ _. let le = sum_below-le f.size _ _ (ones (λ k. get_or (replicate f.size 0) k 0)) in omega arith;
       }
@@ -139,9 +153,14 @@ module _ {S : Type 0} (f : Flows S) (proper : S → Type 0) (law : IsLawful f pr
   }
 
   -- what the counts come to
-  pub are_counted : (first : List S) (w : Work S) (before steps after : ℕ) → IsUnderWay f proper first w steps → after ≤ before + steps → AreCounted f w.rises before after
-  are_counted first w before steps after u few = record {
-    by_rises = λ none. let by = u.by_rises none in omega arith;
+  pub are_counted : (first : List S) (w : Work S) (before steps after : ℕ) → IsUnderWay f proper first w steps → NoneWaits w.list → after ≡ counted_on before steps → AreCounted f w.rises before after
+  are_counted first w before steps after u none few = record {
+    at_least =
+        let over = u.at_least in
+        let gone : (k : ℕ) → k < f.size → leaving f k * wait_of w.list k ≡ 0 = λ k _. ap (λ b. leaving f k * cond b 1 0) (none k) ∙ omega arith in
+        let waits = sum_below-none f.size (λ k. leaving f k * wait_of w.list k) gone in
+        omega arith;
+    by_rises = λ stood. let by = u.by_rises stood in omega arith;
     by_height =
         let by = u.by_rank in
         let most = sum_below-le f.size (λ k. leaving f k * (1 + f.rank (state f w.table k))) (λ k. leaving f k * (f.height + 1)) (λ k l. mul-le-mul_left (leaving f k) (let r = law.rank_bound _ (u.is_work.is_table.proper_states k l) in omega arith)) in

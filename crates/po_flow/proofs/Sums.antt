@@ -18,6 +18,13 @@ sum_below-same (suc k) g h same =
     let here = same k (omega arith) in
     omega arith
 
+pub sum_below-none : (k : ℕ) (g : ℕ → ℕ) → ((n : ℕ) → n < k → g n ≡ 0) → sum_below k g ≡ 0
+sum_below-none zero g none = refl
+sum_below-none (suc k) g none =
+    let before = sum_below-none k g (λ n l. none n (omega arith)) in
+    let here = none k (omega arith) in
+    omega arith
+
 -- two sums whose parts differ at one number only
 pub sum_below-but_one : (k m : ℕ) (g h : ℕ → ℕ) → m < k → ((n : ℕ) → n ≢ m → g n ≡ h n) → sum_below k g + h m ≡ sum_below k h + g m
 sum_below-but_one zero m g h l same = absurd (omega arith)

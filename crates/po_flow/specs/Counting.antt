@@ -38,8 +38,9 @@ pub record AreRises {S : Type 0} (f : Flows S) (table : List S) (rises : List �
 abbrev pub NoneStands : List ℕ → Type 0
 NoneStands rises = (n : ℕ) → slice_index rises n < last_count
 
--- Evaluations are counted from `before` to `after`. Each edge is evaluated at most once, and once more for each rise of its
+-- Evaluations are counted from `before` to `after`. Each edge is evaluated once, and at most once more for each rise of its
 -- source; so there are at most as many as edges times the height and one.
 pub record AreCounted {S : Type 0} (f : Flows S) (rises : List ℕ) (before after : ℕ) : Type 0 where
+  pub at_least : counted_on before (edge_count f) ≤ after
   pub by_rises : NoneStands rises → after ≤ before + sum_over_edges f (λ n. 1 + slice_index rises n)
   pub by_height : after ≤ before + edge_count f * (f.height + 1)

@@ -4,7 +4,7 @@ use Rattle.std.specs.List.{Contains}
 use Rattle.po_base.specs.declared.numbers.NodeNo.{NodeNo}
 use Rattle.po_flow.specs.Flows.{Flows, HasEdge}
 use Rattle.po_flow.specs.Least.{IsTable, IsClosed, TableBelow, EdgeHolds, state}
-use Rattle.po_flow.specs.Counting.{AreRises, NoneStands, sum_over_edges}
+use Rattle.po_flow.specs.Counting.{AreRises, NoneStands, counted_on, edge_count, sum_over_edges}
 use Rattle.po_flow.specs.Waiting.{IsWaiting}
 use Rattle.po_flow.specs.declared.work.Work.{Work}
 
@@ -37,13 +37,15 @@ pub record Rises {S : Type 0} (f : Flows S) (proper : S → Type 0) (a b : Work 
   pub stood : NoneStands b.rises → NoneStands a.rises
   pub counts : NoneStands b.rises → PaysWaits f.size (λ n. slice_index a.rises n) a.list (λ n. slice_index b.rises n) b.list
 
--- What was done from a first table on, with so many evaluations: each edge holds or its source waits, and each evaluation is one
--- of an edge's first or follows a rise of its source. A source that waits has its next evaluations still ahead.
+-- What was done from a first table on, with so many evaluations: each edge holds or its source waits, each edge was evaluated
+-- or its source waits, and each evaluation is an edge's first or follows a rise of its source. A source that waits has its next
+-- evaluations still ahead.
 pub record IsUnderWay {S : Type 0} (f : Flows S) (proper : S → Type 0) (first : List S) (w : Work S) (steps : ℕ) : Type 0 where
   pub is_work : IsWork f proper w
   pub above : TableBelow f first w.table
   pub under : (other : List S) → IsTable f proper other → IsClosed f other → TableBelow f first other → TableBelow f w.table other
   pub edges : (n m : NodeNo) → HasEdge f n m → HoldsOrWaits f w n m
+  pub at_least : counted_on 0 (edge_count f) ≤ steps + sum_over_edges f (wait_of w.list)
   pub by_rank : steps + sum_over_edges f (wait_of w.list) ≤ sum_over_edges f (λ n. 1 + f.rank (state f w.table n))
   pub by_rises : NoneStands w.rises → steps + sum_over_edges f (wait_of w.list) ≤ sum_over_edges f (λ n. 1 + slice_index w.rises n)
 

@@ -22,7 +22,7 @@ pub struct Counted<S> {
 /// The least closed table of a flow, where each evaluation of an edge is one step.
 ///
 /// Nodes that wait are taken in reverse postorder, each loop before what follows it. An edge is evaluated when its
-/// source is taken, which is once at first and again only where the source's state has risen since. Taking a node
+/// source is taken, which is once at first, and again only where the source's state has risen since. Taking a node
 /// takes time in the logarithm of the nodes' number. After `Memory` no step was counted.
 pub fn least_table_counted<F: Flow, L>(
     alloc: Global,

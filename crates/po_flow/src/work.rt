@@ -135,7 +135,8 @@ fn visit<F: Flow, L>(
     requires nexts { nexts.now ≡ (F.meaning flow.now).nexts n }
     ensures rises { OnOk result (Rises (F.meaning flow.now) (F.proper flow.now) work.old work.new) }
     ensures edges { OnOk result ((m : NodeNo) → Contains nexts.now m → HoldsOrWaits (F.meaning flow.now) work.new n m) }
-    ensures counted { OnOk result (steps.new ≤ steps.old + length nexts.now) }
+    ensures at_most { OnOk result (steps.new ≤ steps.old + length nexts.now) }
+    ensures at_least { OnOk result (counted_on steps.old (length nexts.now) ≤ steps.new) }
 {
     for m in nexts {
         follow(alloc, flow, n, *m, work, steps)?;

@@ -18,7 +18,8 @@ loop-n-preserved g c =
     let q = c.as_slice.ensures ∙ nexts_read (g.F.Flow.meaning c.args.flow.now) (g.F.Flow.proper c.args.flow.now) (g.met.F.Flow.lawful c.args.flow.now) c.args.graph.now c.requires.graph c.loop-n.work c.in-Some.n c.take.new.self c.in-Some.ensures c.loop-n.invariant.is_work _ c.index-graph-n.is in
     goes_on (g.F.Flow.meaning c.args.flow.now) (g.F.Flow.proper c.args.flow.now) (g.met.F.Flow.lawful c.args.flow.now) c.loop-n.work c.visit.new.work c.in-Some.n c.take.new.self c.in-Some.ensures c.args.work.now.table c.loop-n.steps c.visit.new.steps c.requires.under_way.is_work.is_table c.loop-n.invariant c.in_ok-visit.ensures.rises
     (λ m h. c.in_ok-visit.ensures.edges m (subst (λ xs. Contains xs m) (sym q) h))
-    (let few = c.in_ok-visit.ensures.counted in let e = ap length q in omega arith)
+    (let few = c.in_ok-visit.ensures.at_most in let e = ap length q in omega arith)
+    (let enough = c.in_ok-visit.ensures.at_least in let e = ap length q in omega arith)
 
 pub loop-n-smaller : goal.loop-n-smaller
 loop-n-smaller g c = left-falls (g.F.Flow.meaning c.args.flow.now) (g.F.Flow.proper c.args.flow.now) (g.met.F.Flow.lawful c.args.flow.now) c.loop-n.work c.visit.new.work c.in-Some.n c.take.new.self c.in-Some.ensures c.loop-n.invariant.is_work c.in_ok-visit.ensures.rises

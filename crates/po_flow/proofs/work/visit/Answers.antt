@@ -13,14 +13,16 @@ pub loop-m-init : goal.loop-m-init
 loop-m-init g c = record {
   rises = unchanged (g.F.Flow.meaning c.args.flow.now) (g.F.Flow.proper c.args.flow.now) (g.met.F.Flow.lawful c.args.flow.now) c.args.work.now c.requires.work;
   edges = λ k h. absurd (omega arith);
-  counted = omega arith;
+  at_most = omega arith;
+  at_least = omega arith;
 }
 
 pub loop-m-preserved : goal.loop-m-preserved
 loop-m-preserved g c = record {
   rises = rises_along (g.F.Flow.meaning c.args.flow.now) (g.F.Flow.proper c.args.flow.now) (g.met.F.Flow.lawful c.args.flow.now) c.args.work.now c.loop-m.work c.follow.new.work c.requires.work c.loop-m.invariant.rises c.in_ok-follow.ensures.rises;
   edges = one_more_edge (g.F.Flow.meaning c.args.flow.now) (g.F.Flow.proper c.args.flow.now) (g.met.F.Flow.lawful c.args.flow.now) c.args.n c.args.nexts.now c.requires.there c.requires.nexts c.loop-m.work c.follow.new.work c.loop-m.m-index _ c.loop-m-test.true c.loop-m.invariant.edges c.in_ok-follow.ensures.rises c.in_ok-follow.ensures.edge;
-  counted = let one = c.in_ok-follow.ensures.counted in let before = c.loop-m.invariant.counted in omega arith;
+  at_most = let one = c.in_ok-follow.ensures.counted in let before = c.loop-m.invariant.at_most in omega arith;
+  at_least = let one = c.in_ok-follow.ensures.counted in let before = c.loop-m.invariant.at_least in omega arith;
 }
 
 pub returns-clause-edges : goal.returns-clause-edges
