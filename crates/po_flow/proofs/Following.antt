@@ -1,5 +1,5 @@
 -- What following an edge does, by what was read on the way.
-use Rattle.std.proofs.Common.{◌≡◌, ℕ, ◌+◌, ◌≤◌, ◌<◌, List, length, Bool, true, false, Some, get_or, sym, ◌∙◌, ap, subst, arith, inl, below_more}
+use Rattle.std.proofs.Common.{◌≡◌, ℕ, ◌+◌, ◌≤◌, ◌<◌, List, length, true, false, Some, get_or, sym, ◌∙◌, ap, subst, arith, inl, below_more}
 use Rattle.std.proofs.Math.ListN.{set}
 use Rattle.std.specs.List.{Contains, slice_get}
 use Rattle.std.proofs.lemmas.List.{get_or_default}

@@ -1,5 +1,5 @@
 -- What waits, by the order.
-use Rattle.std.proofs.Common.{◌≡◌, ℕ, ◌<◌, List, length, Bool, true, false, Option, Some, None, get_or, refl, sym, ap, ◌∙◌, subst, arith, inl, inr}
+use Rattle.std.proofs.Common.{◌≡◌, ℕ, ◌<◌, List, length, Bool, false, Option, Some, None, get_or, sym, ◌∙◌, subst, arith, inl, inr}
 use Rattle.std.proofs.Math.ListN.{set, length-set}
 use Rattle.std.specs.List.{slice_get}
 use Rattle.std.specs.Option.{MatchOption}
@@ -7,7 +7,6 @@ use Rattle.std.proofs.lemmas.Bool.{cases_lt}
 use Rattle.std.proofs.lemmas.List.{get_or_past}
 use Rattle.std.proofs.lemmas.Option.{slice_get_within}
 use Rattle.po_base.specs.declared.numbers.NodeNo.{NodeNo}
-use Rattle.po_flow.specs.Order.{IsOrder}
 use Rattle.po_flow.specs.Waiting.{AreIdleBefore, AreWithin, IsIdleAt, IsListed, IsWaiting, NoneWaits}
 
 module _ (nodes : List NodeNo) (places : List ℕ) (waiting : List Bool) (is : IsListed nodes places waiting) where

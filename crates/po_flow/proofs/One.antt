@@ -1,5 +1,5 @@
 -- A flow has one least table.
-use Rattle.std.proofs.Common.{◌≡◌, ℕ, ◌<◌, List, length, sym, ◌∙◌, arith}
+use Rattle.std.proofs.Common.{◌≡◌, ◌<◌, List, sym, ◌∙◌, arith}
 use Rattle.std.proofs.lemmas.List.{ext_get_or}
 use Rattle.po_flow.specs.Flows.{Flows, IsLawful}
 use Rattle.po_flow.specs.Least.{IsLeast}

@@ -1,14 +1,12 @@
 -- One edge after the other, states only rise, and what has risen waits.
-use Rattle.std.proofs.Common.{◌≡◌, ◌≢◌, ℕ, ◌+◌, ◌-◌, ◌^◌, ◌≤◌, ◌<◌, List, length, Bool, true, false, cond, get_or, refl, sym, ◌∙◌, ap, subst, arith, ◌⊎◌, inl, inr, min}
+use Rattle.std.proofs.Common.{◌≡◌, ◌≢◌, ℕ, ◌+◌, ◌-◌, ◌^◌, ◌≤◌, ◌<◌, List, length, true, false, get_or, sym, ◌∙◌, ap, subst, arith, inl, inr}
 use Rattle.std.proofs.Math.ListN.{set, length-set}
-use Rattle.std.specs.List.{Contains}
 use Rattle.std.proofs.lemmas.Bool.{cases_eq, false_from_ne_true}
 use Rattle.std.proofs.lemmas.List.{get_or-set_same, get_or-set_other}
 use Rattle.po_base.specs.declared.numbers.NodeNo.{NodeNo}
-use Rattle.po_flow.specs.Counting.{AreRises, NoneStands, counted_on}
+use Rattle.po_flow.specs.Counting.{NoneStands, counted_on}
 use Rattle.po_flow.specs.Flows.{Flows, HasEdge, IsLawful}
 use Rattle.po_flow.specs.Least.{EdgeHolds, IsClosed, IsTable, TableBelow, state}
-use Rattle.po_flow.specs.Waiting.{IsWaiting}
 use Rattle.po_flow.specs.Working.{HoldsOrWaits, IsWork, Rises, wait_of}
 use Rattle.po_flow.specs.declared.work.Work.{Work}
 

@@ -1,19 +1,19 @@
 -- Taking one node after the other leads to the least table.
-use Rattle.std.proofs.Common.{◌≡◌, ◌≢◌, ℕ, ◌+◌, ◌-◌, ◌*◌, ◌≤◌, ◌<◌, List, [], length, Bool, true, false, cond, get_or, refl, sym, ◌∙◌, ap, subst, arith, inl, inr, min, replicate}
-use Rattle.std.proofs.Math.ListN.{set, length-set}
+use Rattle.std.proofs.Common.{◌≡◌, ◌≢◌, ℕ, ◌+◌, ◌-◌, ◌*◌, ◌≤◌, ◌<◌, List, [], length, Bool, true, false, cond, get_or, sym, ◌∙◌, ap, subst, arith, inl, inr, replicate}
+use Rattle.std.proofs.Math.ListN.{length-set}
 use Rattle.std.proofs.Math.Nat.{mul-le-mul_left}
 use Rattle.std.specs.List.{Contains}
 use Rattle.std.proofs.lemmas.Bool.{cases_Bool, cases_eq}
 use Rattle.std.proofs.lemmas.List.{get_or-set_same, get_or-set_other, get_or-replicate, get_or_read, length-replicate}
 use Rattle.po_base.specs.declared.numbers.NodeNo.{NodeNo}
-use Rattle.po_flow.specs.Counting.{AreCounted, AreRises, NoneStands, counted_on, edge_count, leaving, sum_below, sum_over_edges}
-use Rattle.po_flow.specs.Flows.{Flows, HasEdge, IsLawful}
+use Rattle.po_flow.specs.Counting.{AreCounted, counted_on, edge_count, leaving, sum_below}
+use Rattle.po_flow.specs.Flows.{Flows, IsLawful}
 use Rattle.po_flow.specs.Graph.{IsGraph}
-use Rattle.po_flow.specs.Least.{EdgeHolds, IsClosed, IsLeast, IsTable, TableBelow, state}
+use Rattle.po_flow.specs.Least.{IsLeast, IsTable, state}
 use Rattle.po_flow.specs.Waiting.{IsTaken, IsWaiting, NoneWaits}
 use Rattle.po_flow.specs.Working.{HoldsOrWaits, IsFirst, IsUnderWay, IsWork, PaysWaits, Rises, wait_of}
 use Rattle.po_flow.specs.declared.work.Work.{Work}
-use Rattle.po_flow.proofs.Rising.{at_each, below_along, below_itself, stays}
+use Rattle.po_flow.proofs.Rising.{at_each, below_along, below_itself}
 use Rattle.po_flow.proofs.Sums.{sum_below-but_one, sum_below-bound, sum_below-le, sum_below-none, sum_below-one_more, sum_below-pays, sum_below-same, sum_below-times}
 
 same_node : (n m : NodeNo) → n.0 ≡ m.0 → n ≡ m

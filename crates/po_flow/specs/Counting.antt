@@ -1,6 +1,5 @@
 -- How often edges are evaluated.
 use Rattle.std.specs.Prelude.{ℕ, zero, suc, ◌≤◌, ◌<◌, ◌≡◌, ◌+◌, ◌*◌, ◌^◌, ◌-◌, min, List, length, slice_index}
-use Rattle.po_base.specs.declared.numbers.NodeNo.{NodeNo}
 use Rattle.po_flow.specs.Flows.{Flows}
 use Rattle.po_flow.specs.Least.{state}
 

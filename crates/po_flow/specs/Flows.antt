@@ -1,5 +1,5 @@
 -- What a flow means, and the laws that it keeps.
-use Rattle.std.specs.Prelude.{ℕ, ◌≤◌, ◌<◌, ◌≡◌, ◌≢◌, List, length, Bool, true, false, slice_get, Option, Some}
+use Rattle.std.specs.Prelude.{ℕ, ◌≤◌, ◌<◌, ◌≡◌, List, Bool, true, false, slice_get, Some}
 use Rattle.std.specs.List.{Contains}
 use Rattle.po_base.specs.declared.numbers.NodeNo.{NodeNo}
 

@@ -1,5 +1,5 @@
 -- Tables of states, which of them are closed, and which of those is the least.
-use Rattle.std.specs.Prelude.{ℕ, ◌≤◌, ◌<◌, ◌≡◌, List, length, Bool, true, slice_index_or}
+use Rattle.std.specs.Prelude.{ℕ, ◌<◌, ◌≡◌, List, length, true, slice_index_or}
 use Rattle.po_base.specs.declared.numbers.NodeNo.{NodeNo}
 use Rattle.po_flow.specs.Flows.{Flows, HasEdge}
 

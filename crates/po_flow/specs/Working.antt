@@ -1,6 +1,5 @@
 -- How tables rise until every edge holds.
-use Rattle.std.specs.Prelude.{ℕ, ◌+◌, ◌≤◌, ◌<◌, ◌≡◌, ◌⊎◌, List, length, Bool, true, false, cond, slice_index, slice_index_or}
-use Rattle.std.specs.List.{Contains}
+use Rattle.std.specs.Prelude.{ℕ, ◌+◌, ◌≤◌, ◌<◌, ◌≡◌, ◌⊎◌, List, length, Bool, false, cond, slice_index, slice_index_or}
 use Rattle.po_base.specs.declared.numbers.NodeNo.{NodeNo}
 use Rattle.po_flow.specs.Flows.{Flows, HasEdge}
 use Rattle.po_flow.specs.Least.{IsTable, IsClosed, TableBelow, EdgeHolds, state}

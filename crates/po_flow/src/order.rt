@@ -84,11 +84,7 @@ impl Order {
 
 /// The nodes in reverse postorder from node 0, each loop together, before what follows it. Nodes that can't be
 /// reached stand before those that they lead to.
-pub(crate) fn order_of(
-    alloc: Global,
-    size: u32,
-    graph: &[List<NodeNo>],
-) -> Result<Order, Memory>
+pub(crate) fn order_of(alloc: Global, size: u32, graph: &[List<NodeNo>]) -> Result<Order, Memory>
     ensures long { IfOk result (λ order. length order.places ≡ size) }
     ensures order { IfOk result (λ order. IsOrder order.nodes order.places) }
 {

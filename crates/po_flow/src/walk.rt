@@ -188,7 +188,14 @@ impl Walk {
     }
 
     fn into_ends(self) -> List<NodeNo> {
-        let Walk { numbers: _, last: _, path: _, visits: _, root: _, ends } = self;
+        let Walk {
+            numbers: _,
+            last: _,
+            path: _,
+            visits: _,
+            root: _,
+            ends,
+        } = self;
         ends
     }
 }

@@ -69,8 +69,7 @@ impl Worklist {
         match found {
             Some(n) => {
                 self.waiting.set(n.0 as usize, false);
-                self.marks
-                    .clear(self.order.places.as_slice()[n.0 as usize]);
+                self.marks.clear(self.order.places.as_slice()[n.0 as usize]);
                 Some(n)
             }
             None => None,

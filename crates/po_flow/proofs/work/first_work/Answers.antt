@@ -1,4 +1,4 @@
-use Rattle.std.proofs.Common.{◌≡◌, ap, ◌∙◌, replicate, true}
+use Rattle.std.proofs.Common.{ap, ◌∙◌, replicate, true}
 use Rattle.po_flow.proofs.Settling.{begins_at}
 use Rattle.po_flow.proofs.work.first_work.Goals as goal
 

@@ -1,6 +1,5 @@
-use Rattle.std.proofs.Common.{◌≡◌, ◌≤◌, ◌+◌, ◌<◌, List, [], length, sym, ◌∙◌, ap, subst, arith}
+use Rattle.std.proofs.Common.{length, sym, ◌∙◌, ap, subst, arith}
 use Rattle.std.specs.List.{Contains}
-use Rattle.std.proofs.lemmas.List.{get_or_read}
 use Rattle.po_flow.specs.Waiting.{NoneWaits}
 use Rattle.po_flow.specs.Working.{IsUnderWay}
 use Rattle.po_flow.proofs.Settling.{goes_on, left-falls, nexts_read, taken_is_work}

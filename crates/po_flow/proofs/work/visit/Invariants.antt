@@ -1,4 +1,4 @@
-use Rattle.std.proofs.Common.{◌≡◌, ◌≤◌, ◌+◌, ℕ, ◌<◌, length, get_or}
+use Rattle.std.proofs.Common.{◌≤◌, ◌+◌, ℕ, ◌<◌, get_or}
 use Rattle.po_flow.specs.Counting.{counted_on}
 use Rattle.po_flow.specs.Working.{HoldsOrWaits, Rises}
 use Rattle.po_flow.proofs.work.visit.Given as goal

@@ -1,4 +1,3 @@
-use Rattle.std.proofs.Common.{◌≡◌}
 use Rattle.std.proofs.lemmas.Bool.{iff_false}
 use Rattle.po_flow.proofs.Placing.{once_more}
 use Rattle.po_flow.proofs.order.Order.place.Goals as goal

@@ -1,4 +1,4 @@
-use Rattle.std.proofs.Common.{◌≡◌, ◌<◌, ℕ, length}
+use Rattle.std.proofs.Common.{◌≡◌, length}
 use Rattle.po_flow.specs.Order.{StandOnce}
 use Rattle.po_flow.proofs.order.Order.place_backwards.Given as goal
 

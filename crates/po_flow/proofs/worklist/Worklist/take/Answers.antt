@@ -1,4 +1,4 @@
-use Rattle.std.proofs.Common.{◌≡◌, subst}
+use Rattle.std.proofs.Common.{subst}
 use Rattle.po_flow.specs.Waiting.{IsTaken, NoneWaits}
 use Rattle.po_flow.proofs.Listing.{nodes_within, none_left, set_listed, waits_within}
 use Rattle.po_flow.proofs.worklist.Worklist.take.Goals as goal
