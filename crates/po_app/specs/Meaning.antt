@@ -11,7 +11,7 @@ use Rattle.po_base.specs.declared.operand.Opnd.TheVariants.{Reg, Num}
 use Rattle.po_arith.specs.declared.int_type.IntType.{IntType}
 use Rattle.po_ir.specs.declared.instr.Callee.{Callee}
 use Rattle.po_ir.specs.declared.instr.Callee.TheVariants.{Fun}
-use Rattle.po_ir.specs.declared.instr.Ty.TheVariants.{Int, Ptr}
+use Rattle.po_ir.specs.declared.instr.Ty.TheVariants.{Int}
 use Rattle.po_ir.specs.declared.instr.Instr.{Instr}
 use Rattle.po_ir.specs.declared.instr.Instr.TheVariants.{Bin, Call, Return}
 use Rattle.po_ir.specs.declared.graph.Node.{Node}

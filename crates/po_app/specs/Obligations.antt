@@ -7,9 +7,9 @@ use Rattle.po_base.specs.declared.operand.Opnd.TheVariants.{Reg, Num}
 use Rattle.po_core.specs.declared.obl.Cause.TheVariants.{Primary}
 use Rattle.po_core.specs.declared.obl.Obl.{Obl}
 use Rattle.po_arith.specs.declared.int_type.IntType.{IntType}
-use Rattle.po_ir.specs.declared.instr.Ty.TheVariants.{Int, Ptr}
+use Rattle.po_ir.specs.declared.instr.Ty.TheVariants.{Int}
 use Rattle.po_ir.specs.declared.instr.Instr.{Instr}
-use Rattle.po_ir.specs.declared.instr.Instr.TheVariants.{Bin, Call, Return}
+use Rattle.po_ir.specs.declared.instr.Instr.TheVariants.{Bin}
 use Rattle.po_ir.specs.declared.graph.Node.{Node}
 use Rattle.po_ir.specs.declared.project.Function.{Function}
 use Rattle.po_ir.specs.declared.project.Project.{Project}

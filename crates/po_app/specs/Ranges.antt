@@ -5,9 +5,9 @@ use mir.Syntax.{w128}
 use Rattle.po_base.specs.declared.operand.Opnd.{Opnd}
 use Rattle.po_base.specs.declared.operand.Opnd.TheVariants.{Reg, Num}
 use Rattle.po_arith.specs.declared.range.Range.{Range}
-use Rattle.po_ir.specs.declared.instr.Ty.TheVariants.{Int, Ptr}
+use Rattle.po_ir.specs.declared.instr.Ty.TheVariants.{Int}
 use Rattle.po_ir.specs.declared.instr.Instr.{Instr}
-use Rattle.po_ir.specs.declared.instr.Instr.TheVariants.{Bin, Call, Return}
+use Rattle.po_ir.specs.declared.instr.Instr.TheVariants.{Bin, Call}
 use Rattle.po_ir.specs.declared.project.Function.{Function}
 use Rattle.po_ir.specs.declared.project.Project.{Project}
 use Rattle.po_pred.specs.declared.pred.Place.{Place}
