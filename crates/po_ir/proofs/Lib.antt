@@ -1,0 +1,7 @@
+mod General
+mod Gains
+mod Reached
+mod Reaching
+mod Paired
+mod Within
+mod Refused
