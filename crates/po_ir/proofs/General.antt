@@ -1,6 +1,7 @@
 -- Facts on lists that speak of no graph.
-use Rattle.std.proofs.Common.{◌≡◌, ℕ, zero, suc, ◌+◌, ◌<◌, List, [], ◌∷◌, ◌++◌, length, map, get_or, take, refl, ◌⊎◌, inl, inr, ap, sym, ◌∙◌, append_assoc, arith, subst}
-use Rattle.std.specs.Prelude.{Some, Result, Ok, Err, IfOk, slice_get}
+use Rattle.std.proofs.Common.{◌≡◌, ℕ, zero, suc, ◌+◌, ◌<◌, List, [], ◌∷◌, ◌++◌, length, map, get_or, take, refl, ◌⊎◌, inl, inr, ap, sym, ◌∙◌, append_assoc, arith, subst, Bool, true, false, cond}
+use Rattle.std.specs.Prelude.{Some, Result, Ok, Err, IfOk, slice_get, Contains}
+use Rattle.std.proofs.lemmas.List.Elements.{Contains-append_left, Contains-append_right, Contains-append_cases, Contains-push_cases}
 use Rattle.std.proofs.lemmas.List.{append-nil}
 use Rattle.po_ir.specs.General.{each_from}
 
@@ -77,3 +78,31 @@ item_pushed (z ∷ zs) y (suc k) x h = elim (item_pushed zs y k x h) [ inl a ↦
 pub if_ok-map : {T E : Type 0} {P Q : T → Type 0} (r : Result T E) → ((x : T) → P x → Q x) → IfOk r P → IfOk r Q
 if_ok-map (Ok x) f h = f x h
 if_ok-map (Err e) f h = tt
+
+-- what is made of an item is among what is made of all
+pub into_each : {X Y : Type 0} (f : ℕ → X → List Y) (n : ℕ) (xs : List X) (i : ℕ) (x : X) (y : Y) → slice_get xs i ≡ Some x → Contains (f (n + i) x) y → Contains (each_from f n xs) y
+into_each f n [] i x y e h = absurd (cc)
+into_each f n (z ∷ zs) zero x y e h =
+    let same : z ≡ x = cc in
+    let none : n + 0 ≡ n = omega arith in
+    Contains-append_left (f n z) _ y (subst (λ w. Contains (f n w) y) (sym same) (subst (λ k. Contains (f k x) y) none h))
+into_each f n (z ∷ zs) (suc i) x y e h =
+    let next : n + suc i ≡ (n + 1) + i = omega arith in
+    Contains-append_right (f n z) _ y (into_each f (n + 1) zs i x y e (subst (λ k. Contains (f k x) y) next h))
+
+-- what is among what is made of all is made of an item
+pub from_each : {X Y : Type 0} (f : ℕ → X → List Y) (n : ℕ) (xs : List X) (y : Y) → Contains (each_from f n xs) y → (i : ℕ) × (x : X) × (slice_get xs i ≡ Some x) × Contains (f (n + i) x) y
+from_each f n [] y c = absurd (let h = c.1 in omega arith)
+from_each f n (z ∷ zs) y c =
+    elim (Contains-append_cases (f n z) (each_from f (n + 1) zs) y c) [
+      | inl a ↦ let none : n ≡ n + 0 = omega arith in (0, z, refl, subst (λ k. Contains (f k z) y) none a)
+      | inr b ↦
+          let r = from_each f (n + 1) zs y b in
+          let next : (n + 1) + r.0 ≡ n + suc r.0 = omega arith in
+          (suc r.0, r.1, r.2, subst (λ k. Contains (f k r.1) y) next r.3)
+    ]
+
+-- an item that stands alone, where a test holds
+pub alone : {X : Type 0} (b : Bool) (x y : X) → Contains (cond b (x ∷ []) []) y → (b ≡ true) × (x ≡ y)
+alone true x y c = elim (Contains-push_cases [] x y c) [ inl h ↦ absurd (let l = h.1 in omega arith) | inr e ↦ (refl, e) ]
+alone false x y c = absurd (let h = c.1 in omega arith)

@@ -5,3 +5,4 @@ mod Reaching
 mod Paired
 mod Within
 mod Refused
+mod Sites

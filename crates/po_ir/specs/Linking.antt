@@ -5,6 +5,8 @@ use Rattle.std.specs.Cmp.Lexicographic.{slice_cmp}
 use Rattle.std.specs.declared.cmp.Ordering.TheVariants.{Greater}
 use Rattle.po_ir.specs.declared.project.Function.{Function}
 use Rattle.po_ir.specs.declared.unit.Unit.{Unit as FileUnit}
+use Rattle.po_ir.specs.declared.link_fail.LinkFail.{LinkFail}
+use Rattle.po_ir.specs.declared.link_fail.LinkFail.TheVariants.{TwoBodies, Clash, TooLarge, Memory}
 
 -- what P says holds of the unit of the file
 abbrev pub InFile : List FileUnit → ℕ → (FileUnit → Type 0) → Type 0
@@ -83,3 +85,13 @@ pub record OneRefusal : Type 0 where
   pub bodies : (units : List FileUnit) (x y : List ℕ) (a b c d : ℕ) → IsTwoBodies units x a b → IsTwoBodies units y c d → (x ≡ y) × (a ≡ c) × (b ≡ d)
   pub clashes : (units : List FileUnit) (x y : List ℕ) (a b c d : ℕ) → IsClash units x a b → IsClash units y c d → (x ≡ y) × (a ≡ c) × (b ≡ d)
   pub bodies_first : (units : List FileUnit) (x y : List ℕ) (a b c d : ℕ) → IsTwoBodies units x a b → IsClash units y c d → ⊥
+
+abbrev pub NoCause : List FileUnit → Type 0
+NoCause units = (name : List ℕ) → HasCause units name → ⊥
+
+-- why the files aren't joined to a project; want of memory has no cause
+abbrev pub IsRefused : List FileUnit → LinkFail → Type 0
+IsRefused units (TwoBodies name a b) = IsTwoBodies units name a.0 b.0
+IsRefused units (Clash name a b) = IsClash units name a.0 b.0
+IsRefused units (TooLarge count) = NoCause units × IsTooLarge units count
+IsRefused units Memory = Unit {0}
