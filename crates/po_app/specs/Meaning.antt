@@ -11,7 +11,7 @@ use Rattle.po_base.specs.declared.operand.Opnd.TheVariants.{Reg, Num}
 use Rattle.po_arith.specs.declared.int_type.IntType.{IntType}
 use Rattle.po_ir.specs.declared.instr.Callee.{Callee}
 use Rattle.po_ir.specs.declared.instr.Callee.TheVariants.{Fun}
-use Rattle.po_ir.specs.declared.instr.Ty.TheVariants.{Int, Ptr}
+use Rattle.po_ir.specs.declared.instr.Ty.TheVariants.{Int}
 use Rattle.po_ir.specs.declared.instr.Instr.{Instr}
 use Rattle.po_ir.specs.declared.instr.Instr.TheVariants.{Bin, Call, Return}
 use Rattle.po_ir.specs.declared.graph.Node.{Node}
@@ -190,7 +190,8 @@ pub record Returns (p : Project) (value : Option Opnd) (s u : State) : Type 0 wh
   pub to : Option RegNo
   pub callee : Callee
   pub args : List Opnd
-  pub calls : node.instr ≡ Call to callee args
+  pub strings : List ℕ
+  pub calls : node.instr ≡ Call to callee args strings
   pub result : Option Value
   pub is_result : Gives s.top value result
   pub top : u.top ≡ receive to result caller
@@ -199,9 +200,9 @@ pub record Returns (p : Project) (value : Option Opnd) (s u : State) : Type 0 wh
 -- the next states of an instruction
 abbrev pub StepOf : Project → Instr → State → State → Type 0
 StepOf p (Bin to op (Int t) a b) s u = Computes to.0 op t a b s.top u.top × (u.rest ≡ s.rest)
-StepOf p (Bin to op Ptr a b) s u = ⊥
-StepOf p (Call to (Fun f) args) s u = Enters p f.0 args s u
+StepOf p (Call to (Fun f) args strings) s u = Enters p f.0 args s u
 StepOf p (Return value) s u = Returns p value s u
+StepOf p _ s u = ⊥
 
 -- one step: all obligations at the node hold, and the instruction goes on
 pub record Step (p : Project) (r : Report Pred Rule) (s u : State) : Type 0 where

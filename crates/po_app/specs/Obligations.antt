@@ -7,9 +7,9 @@ use Rattle.po_base.specs.declared.operand.Opnd.TheVariants.{Reg, Num}
 use Rattle.po_core.specs.declared.obl.Cause.TheVariants.{Primary}
 use Rattle.po_core.specs.declared.obl.Obl.{Obl}
 use Rattle.po_arith.specs.declared.int_type.IntType.{IntType}
-use Rattle.po_ir.specs.declared.instr.Ty.TheVariants.{Int, Ptr}
+use Rattle.po_ir.specs.declared.instr.Ty.TheVariants.{Int}
 use Rattle.po_ir.specs.declared.instr.Instr.{Instr}
-use Rattle.po_ir.specs.declared.instr.Instr.TheVariants.{Bin, Call, Return}
+use Rattle.po_ir.specs.declared.instr.Instr.TheVariants.{Bin}
 use Rattle.po_ir.specs.declared.graph.Node.{Node}
 use Rattle.po_ir.specs.declared.project.Function.{Function}
 use Rattle.po_ir.specs.declared.project.Project.{Project}
@@ -44,9 +44,7 @@ operator_predicates _ t a b = []
 -- the predicates that a node's operation asks for
 abbrev pub predicates : Instr → List Pred
 predicates (Bin to op (Int t) a b) = operator_predicates op t (place a) (place b)
-predicates (Bin to op Ptr a b) = []
-predicates (Call to callee args) = []
-predicates (Return value) = []
+predicates _ = []
 
 -- what f makes of each item and its place, which is counted from n on
 abbrev pub each_from : {X Y : Type 0} → (ℕ → X → List Y) → ℕ → List X → List Y

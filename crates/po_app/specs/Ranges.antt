@@ -5,9 +5,9 @@ use mir.Syntax.{w128}
 use Rattle.po_base.specs.declared.operand.Opnd.{Opnd}
 use Rattle.po_base.specs.declared.operand.Opnd.TheVariants.{Reg, Num}
 use Rattle.po_arith.specs.declared.range.Range.{Range}
-use Rattle.po_ir.specs.declared.instr.Ty.TheVariants.{Int, Ptr}
+use Rattle.po_ir.specs.declared.instr.Ty.TheVariants.{Int}
 use Rattle.po_ir.specs.declared.instr.Instr.{Instr}
-use Rattle.po_ir.specs.declared.instr.Instr.TheVariants.{Bin, Call, Return}
+use Rattle.po_ir.specs.declared.instr.Instr.TheVariants.{Bin, Call}
 use Rattle.po_ir.specs.declared.project.Function.{Function}
 use Rattle.po_ir.specs.declared.project.Project.{Project}
 use Rattle.po_pred.specs.declared.pred.Place.{Place}
@@ -57,9 +57,8 @@ IsSmallOperand (Num n) = IsSmall n
 
 abbrev pub IsSmallInstr : Instr → Type 0
 IsSmallInstr (Bin to op (Int t) a b) = IsWidth t.bits × IsSmallOperand a × IsSmallOperand b
-IsSmallInstr (Bin to op Ptr a b) = Unit {0}
-IsSmallInstr (Call to callee args) = (length args < 2 ^ 32) × All IsSmallOperand args
-IsSmallInstr (Return value) = Unit {0}
+IsSmallInstr (Call to callee args strings) = (length args < 2 ^ 32) × All IsSmallOperand args
+IsSmallInstr _ = Unit {0}
 
 pub record IsSmallFunction (f : Function) : Type 0 where
   pub few : length f.graph.nodes < 2 ^ 32

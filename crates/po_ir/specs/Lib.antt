@@ -1,0 +1,12 @@
+pub mod Instructions
+pub mod Paths
+pub mod Valid
+pub mod General
+pub mod Calls
+pub mod Callers
+pub mod Reaching
+pub mod Leading
+pub mod Paired
+pub mod Types
+pub mod Whole
+pub mod Linking

@@ -1,0 +1,8 @@
+mod General
+mod Gains
+mod Reached
+mod Reaching
+mod Paired
+mod Within
+mod Refused
+mod Sites
