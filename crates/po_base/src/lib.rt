@@ -9,6 +9,7 @@ mod numbers;
 mod operand;
 mod operators;
 mod ord_list;
+mod out;
 mod roomy;
 mod spot;
 #[cfg(test)]
@@ -23,6 +24,7 @@ pub use numbers::{FileNo, FunNo, GlobalNo, LibNo, NodeNo, RegNo, SlotNo, StrNo};
 pub use operand::Opnd;
 pub use operators::{Op, UnOp};
 pub use ord_list::OrdList;
+pub use out::Out;
 pub use roomy::Roomy;
 pub use spot::Spot;
 pub use text::Text;
