@@ -185,12 +185,12 @@ appends_more file params items i y z old mid new vs us w h is same a b pushed =
 -- the nodes of the arguments, and the call's
 call_appends : (file : List ℕ) (params line f : ℕ) (xs : List Expression) (old new : List Node) (vs : List Opnd) →
     length vs < 2 ^ 32 → AppendsAll file params xs old new vs →
-    Appends file params (e.Call f line xs) old (new ++ node_at file line (Call (Some (record { 0 = params + length new })) (Fun (record { 0 = f })) vs) ∷ []) (register (params + length new))
+    Appends file params (e.Call f line xs) old (new ++ node_at file line (Call (Some (record { 0 = params + length new })) (Fun (record { 0 = f })) vs []) ∷ []) (register (params + length new))
 call_appends file params line f xs old new vs few a =
     let ms = a.more in
     let new_length : length new ≡ length old + length ms = ap length a.appended ∙ length-append old ms in
     let number : params + (length old + length ms) ≡ params + length new = omega (arith, new_length) in
-    let end : ℕ → List Node = λ k. node_at file line (Call (Some (record { 0 = k })) (Fun (record { 0 = f })) vs) ∷ [] in
+    let end : ℕ → List Node = λ k. node_at file line (Call (Some (record { 0 = k })) (Fun (record { 0 = f })) vs []) ∷ [] in
     record {
       more = ms ++ end (params + length new);
       appended = ap (λ l. l ++ end (params + length new)) a.appended ∙ append_assoc old ms _;
@@ -201,7 +201,7 @@ call_appends file params line f xs old new vs few a =
           let one : length (end (params + length new)) ≡ 1 = refl in
           omega (arith, appended, own, one, a.counted, sum_mapped xs);
       small =
-          let last = node_at file line (Call (Some (record { 0 = params + length new })) (Fun (record { 0 = f })) vs) in
+          let last = node_at file line (Call (Some (record { 0 = params + length new })) (Fun (record { 0 = f })) vs []) in
           let here : IsSmallInstr last.instr = (few, a.small_values) in
           All-append (λ n. IsSmallInstr n.instr) ms _ a.small (All-cons (λ n. IsSmallInstr n.instr) last [] here (All-nil _));
       small_value = tt;
@@ -209,11 +209,11 @@ call_appends file params line f xs old new vs few a =
 
 pub appends-Call : (file : List ℕ) (params line f : ℕ) (x : Expression) (xs items : List Expression) (old new last : List Node) (vs : List Opnd) (n : Node) (k : ℕ) →
     x ≡ e.Call f line xs → items ≡ xs → length vs < 2 ^ 32 → AppendsAll file params items old new vs →
-    k ≡ length new → n ≡ node_at file line (Call (Some (record { 0 = params + k })) (Fun (record { 0 = f })) vs) → last ≡ new ++ n ∷ [] →
+    k ≡ length new → n ≡ node_at file line (Call (Some (record { 0 = params + k })) (Fun (record { 0 = f })) vs []) → last ≡ new ++ n ∷ [] →
     Appends file params x old last (register (params + k))
 appends-Call file params line f x xs items old new last vs n k q r few a at node end =
     let made = call_appends file params line f items old new vs few a in
-    let call_at : ℕ → Node = λ i. node_at file line (Call (Some (record { 0 = params + i })) (Fun (record { 0 = f })) vs) in
+    let call_at : ℕ → Node = λ i. node_at file line (Call (Some (record { 0 = params + i })) (Fun (record { 0 = f })) vs []) in
     let numbered : Appends file params (e.Call f line items) old (new ++ call_at k ∷ []) (register (params + k)) =
     subst (λ i. Appends file params (e.Call f line items) old (new ++ call_at i ∷ []) (register (params + i))) (sym at) made in
     let ended : Appends file params (e.Call f line items) old last (register (params + k)) =

@@ -37,7 +37,7 @@ joined file params op line taken a b =
 called : List ℕ → ℕ → ℕ → ℕ → ℕ → List Node × List Opnd → List Node × Opnd
 called file params f line taken a =
     let k = params + (taken + length a.0) in
-    (a.0 ++ node_at file line (Call (Some (record { 0 = k })) (Fun (record { 0 = f })) a.1) ∷ [], register k)
+    (a.0 ++ node_at file line (Call (Some (record { 0 = k })) (Fun (record { 0 = f })) a.1 []) ∷ [], register k)
 
 -- one more expression before others
 before : List Node × Opnd → List Node × List Opnd → List Node × List Opnd
@@ -87,7 +87,7 @@ module _ (file : List ℕ) (params : ℕ) where
   joined_at op line k ms ns v w = refl
 
   called_at : (f line k : ℕ) (ns : List Node) (vs : List Opnd) →
-      called file params f line k (ns, vs) ≡ (ns ++ node_at file line (Call (Some (record { 0 = params + (k + length ns) })) (Fun (record { 0 = f })) vs) ∷ [], register (params + (k + length ns)))
+      called file params f line k (ns, vs) ≡ (ns ++ node_at file line (Call (Some (record { 0 = params + (k + length ns) })) (Fun (record { 0 = f })) vs []) ∷ [], register (params + (k + length ns)))
   unfolding called
   called_at f line k ns vs = refl
 
@@ -156,7 +156,12 @@ one_project : (file : List ℕ) (ds : List Definition) (p q : Project) → IsPro
 one_project file ds p q is also =
     let files = is.files ∙ sym also.files in
     let functions = functions_known file ds p.functions is.functions ∙ sym (functions_known file ds q.functions also.functions) in
-    λ i. record { files = files i; functions = functions i }
+    let opaque = is.opaque ∙ sym also.opaque in
+    let globals = is.globals ∙ sym also.globals in
+    let texts = is.texts ∙ sym also.texts in
+    let effects = is.effects ∙ sym also.effects in
+    let target = is.target ∙ sym also.target in
+    λ i. record { files = files i; opaque = opaque i; functions = functions i; globals = globals i; texts = texts i; effects = effects i; target = target i }
 
 one_report : (p : Project) (r s : Report Pred Rule) → IsReport p r → IsReport p s → r ≡ s
 one_report p r s is also = one_least_report pred_cmp pred_total (book p) r s is also

@@ -57,9 +57,7 @@ module _ (t : IntType) (a b : Place) (w : IsWidth t.bits) (sa : IsSmallPlace a) 
 -- what a small operation asks for is small
 pub asked_small : (i : Instr) → IsSmallInstr i → All IsSmallPredicate (predicates i)
 asked_small (Bin to o (Int t) a b) h = operator_small t (place a) (place b) h.0 (operand_small a h.1) (operand_small b h.2) o
-asked_small (Bin to o Ptr a b) h = All-nil _
-asked_small (Call to callee args) h = All-nil _
-asked_small (Return value) h = All-nil _
+asked_small _ h = All-nil _
 
 -- the numbers of a place of an assumption
 pub record IsAssumed (p : Place) : Type 0 where
@@ -169,9 +167,8 @@ supported_call args q r true small h is = subst IsSmallPredicate (some_same _ _ 
 supported_call args q r false small h is = absurd (cc)
 
 supported_small : (i : Instr) (q r : Pred) → IsSmallInstr i → supported i q ≡ Some r → IsSmallPredicate r
-supported_small (Bin to o t a b) q r small is = absurd (cc)
-supported_small (Call to callee args) q r small is = supported_call args q r (is_assumable (length args) q) small.1 (assumable_assumed (length args) q) is
-supported_small (Return value) q r small is = absurd (cc)
+supported_small (Call to callee args strings) q r small is = supported_call args q r (is_assumable (length args) q) small.1 (assumable_assumed (length args) q) is
+supported_small _ q r small is = absurd (cc)
 
 caused_small : (node : Node) (cause : Cause Pred) (q : Pred) → IsSmallInstr node.instr → caused (Some node) cause ≡ Some q → IsSmallPredicate q
 caused_small node (Primary i) q small is = at_place IsSmallPredicate (predicates node.instr) i q (asked_small node.instr small) is

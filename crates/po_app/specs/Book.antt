@@ -35,7 +35,7 @@ abbrev pub places : Project → FunNo → List (NodeNo × ℕ)
 places p f = each_from node_places 0 (nodes_of (slice_get p.functions f.0))
 
 abbrev pub is_call_of : FunNo → Instr → Bool
-is_call_of f (Call to (Fun g) args) = g.0 == f.0
+is_call_of f (Call to (Fun g) args strings) = g.0 == f.0
 is_call_of f _ = false
 
 abbrev pub node_call : FunNo → ℕ → ℕ → Node → List (FunNo × NodeNo)

@@ -14,6 +14,7 @@ use Rattle.po_ir.specs.declared.graph.Reg.{Reg as Register}
 use Rattle.po_ir.specs.declared.graph.Graph.{Graph}
 use Rattle.po_ir.specs.declared.project.Function.{Function}
 use Rattle.po_ir.specs.declared.project.Project.{Project}
+use Rattle.po_arith.specs.declared.target.Target.TheVariants.{L64}
 use Rattle.po_straight.specs.declared.expression.Expression.{Expression}
 use Rattle.po_straight.specs.declared.expression.Expression.TheVariants as e
 use Rattle.po_straight.specs.declared.definition.Definition.{Definition}
@@ -44,7 +45,7 @@ mutual
     call : (f line taken : ℕ) (arguments : List Expression) (nodes : List Node) (values : List Opnd) →
         LowersAll file params arguments taken nodes values →
         Lowers file params (e.Call f line arguments) taken
-        (nodes ++ node_at file line (Call (Some (record { 0 = params + (taken + length nodes) })) (Fun (record { 0 = f })) values) ∷ [])
+        (nodes ++ node_at file line (Call (Some (record { 0 = params + (taken + length nodes) })) (Fun (record { 0 = f })) values []) ∷ [])
         (register (params + (taken + length nodes)))
 
   -- the same of expressions one after the other, each with its value
@@ -80,4 +81,9 @@ pub record IsFunction (file : List ℕ) (d : Definition) (f : Function) : Type 0
 -- the project of one file with these definitions
 pub record IsProject (file : List ℕ) (ds : List Definition) (p : Project) : Type 0 where
   pub files : p.files ≡ file ∷ []
+  pub opaque : p.opaque ≡ []
   pub functions : AllZip (IsFunction file) ds p.functions
+  pub globals : p.globals ≡ []
+  pub texts : p.texts ≡ []
+  pub effects : p.effects ≡ []
+  pub target : p.target ≡ L64

@@ -192,7 +192,8 @@ pub record Returns (p : Project) (value : Option Opnd) (s u : State) : Type 0 wh
   pub to : Option RegNo
   pub callee : Callee
   pub args : List Opnd
-  pub calls : node.instr ≡ Call to callee args
+  pub strings : List ℕ
+  pub calls : node.instr ≡ Call to callee args strings
   pub result : Option Value
   pub is_result : Gives s.top value result
   pub top : u.top ≡ receive to result caller
@@ -201,9 +202,9 @@ pub record Returns (p : Project) (value : Option Opnd) (s u : State) : Type 0 wh
 -- the next states of an instruction
 abbrev pub StepOf : Project → Instr → State → State → Type 0
 StepOf p (Bin to op (Int t) a b) s u = Computes to.0 op t a b s.top u.top × (u.rest ≡ s.rest)
-StepOf p (Bin to op Ptr a b) s u = ⊥
-StepOf p (Call to (Fun f) args) s u = Enters p f.0 args s u
+StepOf p (Call to (Fun f) args strings) s u = Enters p f.0 args s u
 StepOf p (Return value) s u = Returns p value s u
+StepOf p _ s u = ⊥
 
 -- one step: all obligations at the node hold, and the instruction goes on
 pub record Step (p : Project) (r : Report Pred Rule) (s u : State) : Type 0 where

@@ -44,9 +44,7 @@ operator_predicates _ t a b = []
 -- the predicates that a node's operation asks for
 abbrev pub predicates : Instr → List Pred
 predicates (Bin to op (Int t) a b) = operator_predicates op t (place a) (place b)
-predicates (Bin to op Ptr a b) = []
-predicates (Call to callee args) = []
-predicates (Return value) = []
+predicates _ = []
 
 -- what f makes of each item and its place, which is counted from n on
 abbrev pub each_from : {X Y : Type 0} → (ℕ → X → List Y) → ℕ → List X → List Y

@@ -58,9 +58,8 @@ IsSmallOperand (Num n) = IsSmall n
 
 abbrev pub IsSmallInstr : Instr → Type 0
 IsSmallInstr (Bin to op (Int t) a b) = IsWidth t.bits × IsSmallOperand a × IsSmallOperand b
-IsSmallInstr (Bin to op Ptr a b) = Unit {0}
-IsSmallInstr (Call to callee args) = (length args < 2 ^ 32) × All IsSmallOperand args
-IsSmallInstr (Return value) = Unit {0}
+IsSmallInstr (Call to callee args strings) = (length args < 2 ^ 32) × All IsSmallOperand args
+IsSmallInstr _ = Unit {0}
 
 pub record IsSmallFunction (f : Function) : Type 0 where
   pub few : length f.graph.nodes < 2 ^ 32

@@ -20,7 +20,7 @@ use Rattle.po_app.specs.Delegation.{is_assumable, delegated}
 
 -- at a call, what the called function may assume, with the arguments put in
 abbrev pub supported : Instr → Pred → Option Pred
-supported (Call to callee args) q = cond (is_assumable (length args) q) (Some (put_in q args)) None
+supported (Call to callee args strings) q = cond (is_assumable (length args) q) (Some (put_in q args)) None
 supported _ q = None
 
 abbrev pub caused : Option Node → Cause Pred → Option Pred

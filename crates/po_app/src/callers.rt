@@ -26,12 +26,11 @@ fn add_node(callers: &mut Vec<Sites>, fun: FunNo, at: NodeNo, node: &Node) -> Re
     ensures { OnOk result (Gains callers.old.items callers.new.items (λ f. node_call f fun.0 at.0 node.now)) }
 {
     match node.instr {
-        Instr::Bin { .. } => Ok(()),
-        Instr::Return { .. } => Ok(()),
         Instr::Call {
             callee: Callee::Fun(callee),
             ..
         } => add_call(callers, callee, (fun, at)),
+        _ => Ok(()),
     }
 }
 

@@ -1,10 +1,10 @@
-ghost use Rattle.std.specs.Prelude.{◌≡◌, ◌+◌, ◌<◌, ◌^◌, ◌++◌, length, map, replicate, sum_by, All, Some, IfOk, OnOk, codes};
+ghost use Rattle.std.specs.Prelude.{[], ◌≡◌, ◌+◌, ◌<◌, ◌^◌, ◌++◌, length, map, replicate, sum_by, All, Some, IfOk, OnOk, codes};
 ghost use Rattle.po_straight.specs.Definitions.{operations};
 ghost use Rattle.po_app.specs.Lowering.{int, node_at, parameter_register, temporary_register, IsFunction, IsGraph, IsProject};
 ghost use Rattle.po_app.specs.Lowered.{Appends, AppendsAll, IsCounted, IsSmallGraph};
 ghost use Rattle.po_app.specs.Ranges.{IsSmallFunction, IsSmallProject};
 
-use po_arith::IntType;
+use po_arith::{IntType, Target};
 use po_base::{FileNo, FunNo, List, Memory, Op, Opnd, RegNo, Spot, Text};
 use po_ir::{CTypeText, Callee, Function, Graph, Instr, Node, Project, Reg, Ty};
 use po_straight::{Definition, Expression};
@@ -31,8 +31,15 @@ fn operation(file: &Text, line: u32, to: RegNo, op: Op, a: Opnd, b: Opnd) -> Res
 
 /// The node of a call of a function of the file. As many arguments as 32 bits don't count are want of memory: their
 /// values alone take more than 2^36 bytes.
-fn call(file: &Text, line: u32, to: RegNo, function: u32, args: List<Opnd>) -> Result<Node, Memory>
-    ensures node { IfOk result (λ node. node ≡ node_at file.now line (Instr.Call (Some to) (Callee.Fun (record { 0 = function })) args)) }
+fn call(
+    alloc: Global,
+    file: &Text,
+    line: u32,
+    to: RegNo,
+    function: u32,
+    args: List<Opnd>,
+) -> Result<Node, Memory>
+    ensures node { IfOk result (λ node. node ≡ node_at file.now line (Instr.Call (Some to) (Callee.Fun (record { 0 = function })) args [])) }
     ensures few { OnOk result (length args < 2 ^ 32) }
 {
     if args.len() > 4_294_967_295 {
@@ -40,7 +47,14 @@ fn call(file: &Text, line: u32, to: RegNo, function: u32, args: List<Opnd>) -> R
     }
     let to = Some(to);
     let callee = Callee::Fun(FunNo(function));
-    Ok(node(file, line, Instr::Call { to, callee, args })?)
+    let strings = List::new(alloc);
+    let instr = Instr::Call {
+        to,
+        callee,
+        args,
+        strings,
+    };
+    Ok(node(file, line, instr)?)
 }
 
 /// Appends the nodes of an expression and gives the operand that holds its value. In time linear in the
@@ -72,7 +86,7 @@ fn lower_expression(
         Expression::Call(function, line, arguments) => {
             let values = lower_arguments(alloc, file, parameters, arguments.as_slice(), nodes)?;
             let to = RegNo(parameters + nodes.len() as u32);
-            nodes.push(call(file, *line, to, *function, values)?)?;
+            nodes.push(call(alloc, file, *line, to, *function, values)?)?;
             Ok(Opnd::Reg(to))
         }
     }
@@ -189,5 +203,13 @@ pub(crate) fn project(
     for definition in definitions.as_slice() {
         functions.push(function(alloc, file, &int, definition)?)?;
     }
-    Ok(Project { files, functions })
+    Ok(Project {
+        files,
+        opaque: List::new(alloc),
+        functions,
+        globals: List::new(alloc),
+        texts: List::new(alloc),
+        effects: List::new(alloc),
+        target: Target::L64,
+    })
 }

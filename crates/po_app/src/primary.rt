@@ -107,8 +107,6 @@ pub(crate) fn predicates(alloc: Global, instr: &Instr) -> Result<List<Pred>, Mem
             b,
             ..
         } => { operator_predicates(alloc, *op, ty, &place(a), &place(b)) }
-        Instr::Bin { ty: Ty::Ptr, .. } => Ok(List::new(alloc)),
-        Instr::Call { .. } => Ok(List::new(alloc)),
-        Instr::Return { .. } => Ok(List::new(alloc)),
+        _ => Ok(List::new(alloc)),
     }
 }

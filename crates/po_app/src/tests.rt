@@ -4,7 +4,7 @@ ghost use Rattle.po_app.specs.Ranges.{IsSmallOperand, IsSmallInstr, IsSmallFunct
 use crate::book::ProjectBook;
 use crate::rule::Rule;
 use crate::solve::report_of;
-use po_arith::IntType;
+use po_arith::{IntType, Target};
 use po_base::{FileNo, FunNo, List, Memory, NodeNo, Op, Opnd, RegNo, Spot, Text};
 use po_core::{Cause, Obl, Report, Rulebook, Verdict};
 use po_ir::{CTypeText, Callee, Function, Graph, Instr, Node, Project, Ty};
@@ -50,6 +50,7 @@ fn call(alloc: Global, callee: u32, first: u32, second: u32) -> Result<Node, Mem
             to,
             callee: Callee::Fun(FunNo(callee)),
             args,
+            strings: List::new(alloc),
         },
     )
 }
@@ -134,7 +135,15 @@ fn project(alloc: Global, functions: List<Function>) -> Result<Project, Memory>
 {
     let mut files = List::new(alloc);
     files.push(Text::new(alloc, FILE)?)?;
-    Ok(Project { files, functions })
+    Ok(Project {
+        files,
+        opaque: List::new(alloc),
+        functions,
+        globals: List::new(alloc),
+        texts: List::new(alloc),
+        effects: List::new(alloc),
+        target: Target::L64,
+    })
 }
 
 /// `int f(int a,int b){return g(b,a);} int g(int a,int b){return h(a,b);} int h(int a,int b){return f(a,b)/b;}`

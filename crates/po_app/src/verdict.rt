@@ -46,9 +46,8 @@ fn supported(instr: &Instr, assumption: &Pred) -> Option<Pred>
     ensures { result ≡ supported_at instr.now assumption.now }
 {
     match instr {
-        Instr::Bin { .. } => None,
-        Instr::Return { .. } => None,
         Instr::Call { args, .. } => supported_by(args, assumption),
+        _ => None,
     }
 }
 

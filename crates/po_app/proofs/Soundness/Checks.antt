@@ -1,5 +1,5 @@
 -- What is asked where a frame stands: each predicate's places stand on ints.
-use Rattle.std.proofs.Common.{◌≡◌, ◌⊎◌, ℕ, ◌+◌, arith, sym, ◌∙◌, ap, subst, inl, inr}
+use Rattle.std.proofs.Common.{[], ◌≡◌, ◌⊎◌, ℕ, ◌+◌, arith, sym, ◌∙◌, ap, subst, inl, inr}
 use Rattle.std.specs.Prelude.{Option, Some, None, slice_get}
 use Rattle.po_ir.specs.declared.instr.Callee.TheVariants.{Fun}
 use Rattle.po_ir.specs.declared.graph.Node.{Node}
@@ -71,7 +71,7 @@ module _ (p : Project) (are_straight : AreStraight p) where
             elim w.0 [
               | inl o ↦ let never = subst (λ j. supported j by.assumed ≡ Some a.1) o.is pred in absurd (cc)
               | inr c ↦
-                  let at = supported_at n.instr (Some (record { 0 = k.function.graph.params + frame.node })) (Fun (record { 0 = c.callee })) c.args by.assumed a.1 c.is pred in
+                  let at = supported_at n.instr (Some (record { 0 = k.function.graph.params + frame.node })) (Fun (record { 0 = c.callee })) c.args [] by.assumed a.1 c.is pred in
                   subst (AreReady frame) at.1 (put_in_ready (k.function.graph.params + frame.node) frame c.args by.assumed at.0 c.before k.filled)
             ]
         | inr ret ↦ let never = subst (λ j. supported j by.assumed ≡ Some a.1) ret.is pred in absurd (cc)

@@ -70,7 +70,7 @@ pub record Awaits (p : Project) (f : ℕ) (frame : Frame) : Type 0 where
   pub here : node_under p frame ≡ Some node
   pub to : Option RegNo
   pub args : List Opnd
-  pub calls : node.instr ≡ Call to (Fun (record { 0 = f })) args
+  pub calls : node.instr ≡ Call to (Fun (record { 0 = f })) args []
 
 -- the frames below one of the function f: each keeps, and stands at a call of the function of the frame above it
 abbrev pub Waits : Project → ℕ → List Frame → Type 0
@@ -172,8 +172,8 @@ module _ (p : Project) (are_straight : AreStraight p) where
   value_int limit a frame (number v) before filled is = operand_int limit a frame v before filled is
 
   -- a caller that gets what was returned
-  keeps_receive : (caller : Frame) (n : Node) (to : Option RegNo) (callee : Callee) (args : List Opnd) (v : Value) (k : Keeps p caller) → node_under p caller ≡ Some n → n.instr ≡ Call to callee args → IsInt v → Keeps p (receive to (Some v) caller)
-  keeps_receive caller n to callee args v k here calls int =
+  keeps_receive : (caller : Frame) (n : Node) (to : Option RegNo) (callee : Callee) (args : List Opnd) (strings : List ℕ) (v : Value) (k : Keeps p caller) → node_under p caller ≡ Some n → n.instr ≡ Call to callee args strings → IsInt v → Keeps p (receive to (Some v) caller)
+  keeps_receive caller n to callee args strings v k here calls int =
       elim (at_frame caller n k here) [
         | inl w ↦
             elim w.0 [
@@ -193,7 +193,7 @@ module _ (p : Project) (are_straight : AreStraight p) where
       let below = subst (λ (rest : List Frame). Waits p s.top.fun rest) t.waiting waits in
       let got : u.top ≡ receive t.to (Some x) t.caller = t.top ∙ ap (λ v. receive t.to v t.caller) t.is_result.2 in
       let fun : u.top.fun ≡ t.caller.fun = ap (λ (frame : Frame). frame.fun) t.top ∙ received_fun t.to t.result t.caller in (
-        subst (λ (frame : Frame). Keeps p frame) (sym got) (keeps_receive t.caller t.node t.to t.callee t.args x below.0 t.stands t.calls int),
+        subst (λ (frame : Frame). Keeps p frame) (sym got) (keeps_receive t.caller t.node t.to t.callee t.args t.strings x below.0 t.stands t.calls int),
         subst (λ (rest : List Frame). Waits p u.top.fun rest) (sym t.rest) (subst (λ f. Waits p f t.below) (sym fun) below.2),
       )
 

@@ -31,7 +31,7 @@ pub record IsOperation (params k : ℕ) (n : Node) : Type 0 where
 pub record IsCall (counts : List ℕ) (params k : ℕ) (n : Node) : Type 0 where
   pub callee : ℕ
   pub args : List Opnd
-  pub is : n.instr ≡ Call (Some (record { 0 = params + k })) (Fun (record { 0 = callee })) args
+  pub is : n.instr ≡ Call (Some (record { 0 = params + k })) (Fun (record { 0 = callee })) args []
   pub before : AreBefore (params + k) args
   pub counted : slice_get counts callee ≡ Some (length args)
 
@@ -105,7 +105,7 @@ mutual
       let parts = both (is_count (slice_get counts f) (length (map (is_served params counts) arguments))) (all_served params counts arguments) (sym (served-Call params counts f line arguments) ∙ s) in
       let all = all_work counts l parts.1 in
       let to = params + (taken + length ns) in
-      let last = node_at file line (Call (Some (record { 0 = to })) (Fun (record { 0 = f })) vs) in
+      let last = node_at file line (Call (Some (record { 0 = to })) (Fun (record { 0 = f })) vs []) in
       let many : length (map (is_served params counts) arguments) ≡ length vs = length-map arguments (is_served params counts) ∙ sym all.2 in
       let here : IsCall counts params (taken + length ns) last = record {
         callee = f;

@@ -35,7 +35,7 @@ use Rattle.po_app.proofs.Soundness.Frames.{AreStraight, Keeps, Waits, HoldsAlong
 
 -- a call is among the calls of the function that it names
 called_from : (p : Project) (frame : Frame) (g : Function) (n : Node) (f : FunNo) (to : Option RegNo) (callee : ℕ) (args : List Opnd) → slice_get p.functions frame.fun ≡ Some g → slice_get g.graph.nodes frame.node ≡ Some n →
-    n.instr ≡ Call to (Fun (record { 0 = callee })) args → f.0 ≡ callee → Contains (call_sites p f) (record { 0 = frame.fun }, record { 0 = frame.node })
+    n.instr ≡ Call to (Fun (record { 0 = callee })) args [] → f.0 ≡ callee → Contains (call_sites p f) (record { 0 = frame.fun }, record { 0 = frame.node })
 called_from p frame g n f to callee args there node calls same =
     let site : FunNo × NodeNo = (record { 0 = frame.fun }, record { 0 = frame.node }) in
     let is : is_call_of f n.instr ≡ true = ap (is_call_of f) calls ∙ eq-eqb callee f.0 (sym same) in
@@ -48,7 +48,7 @@ received_args None v caller = refl
 received_args (Some to) None caller = refl
 received_args (Some to) (Some v) caller = refl
 
-supported_call : (i : Instr) (to : Option RegNo) (callee : ℕ) (args : List Opnd) (q : Pred) → i ≡ Call to (Fun (record { 0 = callee })) args → is_assumable (length args) q ≡ true → supported i q ≡ Some (put_in q args)
+supported_call : (i : Instr) (to : Option RegNo) (callee : ℕ) (args : List Opnd) (q : Pred) → i ≡ Call to (Fun (record { 0 = callee })) args [] → is_assumable (length args) q ≡ true → supported i q ≡ Some (put_in q args)
 supported_call i to callee args q calls assumable = ap (λ j. supported j q) calls ∙ ap (λ b. cond b (Some (put_in q args)) None) assumable
 
 -- each of these frames meets what is assumed of its function

@@ -42,7 +42,7 @@ module _ (p : Project) (are_straight : AreStraight p) (r : Report Pred Rule) whe
       let called = are_straight.called c.callee (length c.args) c.counted in
       let values = pass to s.top c.args c.before k.filled in
       let u : State = record { top = start_frame c.callee called.0 values.0; rest = s.top ∷ s.rest } in
-      let goes : StepOf p (Call (Some (record { 0 = to })) (Fun (record { 0 = c.callee })) c.args) s u = record { function = called.0; is_there = called.1; values = values.0; passed = values.1; top = refl; rest = refl } in
+      let goes : StepOf p (Call (Some (record { 0 = to })) (Fun (record { 0 = c.callee })) c.args []) s u = record { function = called.0; is_there = called.1; values = values.0; passed = values.1; top = refl; rest = refl } in
       (u, record { node = n; here = here; held = held; goes = subst (λ i. StepOf p i s u) (sym c.is) goes })
 
   -- a return to the frame that waits, or the end where none does
@@ -61,6 +61,7 @@ module _ (p : Project) (are_straight : AreStraight p) (r : Report Pred Rule) whe
         to = a.to;
         callee = Fun (record { 0 = s.top.fun });
         args = a.args;
+        strings = [];
         calls = a.calls;
         result = Some (number v.0);
         is_result = (number v.0, v.1, refl);

@@ -32,6 +32,7 @@ use Rattle.po_pred.specs.declared.pred.Pred.{Pred}
 use Rattle.po_pred.specs.declared.pred.Pred.TheVariants.{Nonzero, NoOver}
 use Rattle.po_app.specs.declared.rule.Rule.{Rule}
 use Rattle.po_app.specs.declared.rule.Rule.TheVariants.{Range}
+use Rattle.po_arith.specs.declared.target.Target.TheVariants.{L64}
 use Rattle.po_app.specs.Lowering.{int, register, node_at, parameter_register, temporary_register, parameter, constant, binary, call, none, more, IsProject}
 use Rattle.po_app.specs.Obligations.{primary}
 use Rattle.po_app.specs.Verdicts.{verdict_of}
@@ -53,7 +54,7 @@ difference = node_at (codes "a.c") 2 (Bin (record { 0 = 1 }) op.Sub int (registe
 
 -- d(7,x-1)
 abbrev pub called : Node
-called = node_at (codes "a.c") 2 (Call (Some (record { 0 = 2 })) (Fun (record { 0 = 0 })) (Num (pos 7) ∷ (register 1 ∷ [])))
+called = node_at (codes "a.c") 2 (Call (Some (record { 0 = 2 })) (Fun (record { 0 = 0 })) (Num (pos 7) ∷ (register 1 ∷ [])) [])
 
 abbrev pub called_returned : Node
 called_returned = node_at (codes "a.c") 2 (Return (Some (register 2)))
@@ -86,11 +87,24 @@ f_function = record {
 }
 
 abbrev pub project : Project
-project = record { files = codes "a.c" ∷ []; functions = d_function ∷ (f_function ∷ []) }
+project = record {
+  files = codes "a.c" ∷ [];
+  opaque = [];
+  functions = d_function ∷ (f_function ∷ []);
+  globals = [];
+  texts = [];
+  effects = [];
+  target = L64;
+}
 
 pub sample_project : IsProject (codes "a.c") definitions project
 sample_project = record {
   files = refl;
+  opaque = refl;
+  globals = refl;
+  texts = refl;
+  effects = refl;
+  target = refl;
   functions = (
     record {
       first_file = refl;

@@ -148,6 +148,7 @@ return_steps = record {
     to = Some (record { 0 = 2 });
     callee = Fun (record { 0 = 0 });
     args = Num (pos 7) ∷ (register 1 ∷ []);
+    strings = [];
     calls = refl;
     result = Some (number (pos 1));
     is_result = (number (pos 1), refl, refl);

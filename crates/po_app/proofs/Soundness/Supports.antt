@@ -85,5 +85,5 @@ caused_at p o frame n cause fun node here is =
     ap (λ v. caused v o.cause) at ∙ ap (caused (Some n)) is
 
 -- what supports an assumption at a call
-pub supported_at : (i : Instr) (to : Option RegNo) (callee : Callee) (args : List Opnd) (assumed q : Pred) → i ≡ Call to callee args → supported i assumed ≡ Some q → (is_assumable (length args) assumed ≡ true) × (put_in assumed args ≡ q)
-supported_at i to callee args assumed q is h = cond_some (is_assumable (length args) assumed) (put_in assumed args) q (subst (λ j. supported j assumed ≡ Some q) is h)
+pub supported_at : (i : Instr) (to : Option RegNo) (callee : Callee) (args : List Opnd) (strings : List ℕ) (assumed q : Pred) → i ≡ Call to callee args strings → supported i assumed ≡ Some q → (is_assumable (length args) assumed ≡ true) × (put_in assumed args ≡ q)
+supported_at i to callee args strings assumed q is h = cond_some (is_assumable (length args) assumed) (put_in assumed args) q (subst (λ j. supported j assumed ≡ Some q) is h)
