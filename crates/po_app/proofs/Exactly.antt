@@ -39,6 +39,7 @@ closed_wherever : (q : Pred) → HaveNumbers q → HoldsForAll q → is_closed q
 closed_wherever (Nonzero x) some all = (Decides-never _ (Decides-has (range_of x) (pos 0))).1 (λ h. all (pos 0) (reached x (pos 0) some h) refl)
 closed_wherever (NoOver op bits a b) some all =
     stays_wherever op bits (range_of a) (second_range b) (ordered_from a.atom a some.0) (second_ordered b some.1) (λ v w h k. all v w (reached a v some.0 h) (second_reached b w some.1 k))
+closed_wherever _ some all = absurd all
 
 pub closed_exactly : (q : Pred) → HaveNumbers q → (is_closed q ≡ true) ↔ HoldsForAll q
 closed_exactly q some = (closed_for_all q, closed_wherever q some)

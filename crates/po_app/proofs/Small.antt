@@ -24,7 +24,7 @@ use Rattle.po_pred.specs.declared.pred.Over.{Over}
 use Rattle.po_pred.specs.declared.pred.Over.TheVariants.{Div, Rem, Add, Sub, Mul}
 use Rattle.po_pred.specs.declared.pred.Pred.{Pred}
 use Rattle.po_pred.specs.declared.pred.Pred.TheVariants.{Nonzero, NoOver}
-use Rattle.po_pred.specs.Order.{places_of}
+use Rattle.po_pred.specs.View.{places_of}
 use Rattle.po_pred.specs.Subst.{moved_to, moved_to_found, put_at, put_in, IsCountedOperand, IsParameterBelow, IsOpenTo}
 use Rattle.po_app.specs.Obligations.{place, operator_predicates, predicates}
 use Rattle.po_app.specs.Delegation.{from_to, allowed_from, is_allowed, fits_parameters, is_assumable}
@@ -86,6 +86,7 @@ abbrev pub AreAssumed : Pred → Type 0
 AreAssumed (Nonzero x) = IsAssumed x
 AreAssumed (NoOver o bits a None) = ⊥
 AreAssumed (NoOver o bits a (Some b)) = IsWidth bits × IsAssumed a × IsAssumed b
+AreAssumed _ = ⊥
 
 fits_assumed : (params : ℕ) (q : Pred) → fits_parameters params q ≡ true → AreAssumed q
 fits_assumed params (Nonzero x) h = allowed_assumed params x.atom x (first_of_two _ _ h)
@@ -94,6 +95,7 @@ fits_assumed params (NoOver o bits a (Some b)) h =
     let three = first_of_two _ _ h in
     let two = first_of_two _ _ three in
     (width bits (second_of_two _ _ h), allowed_assumed params a.atom a (first_of_two _ _ two), allowed_assumed params b.atom b (second_of_two _ _ two))
+fits_assumed params _ h = absurd (cc)
 
 pub assumable_assumed : (params : ℕ) (q : Pred) → is_assumable params q ≡ true → AreAssumed q
 assumable_assumed params q h = fits_assumed params q (first_of_two _ _ h)
@@ -102,6 +104,7 @@ are_small : (q : Pred) → AreAssumed q → IsSmallPredicate q
 are_small (Nonzero x) h = assumed_small x h
 are_small (NoOver o bits a None) h = absurd h
 are_small (NoOver o bits a (Some b)) h = (h.0, assumed_small a h.1, assumed_small b h.2)
+are_small _ h = absurd h
 
 -- what may be assumed is small
 pub assumable_small : (params : ℕ) (q : Pred) → is_assumable params q ≡ true → IsSmallPredicate q
@@ -123,6 +126,7 @@ fits_open count (NoOver o bits a None) h = absurd (cc)
 fits_open count (NoOver o bits a (Some b)) h =
     let two = first_of_two _ _ (first_of_two _ _ h) in
     All-cons (IsOpenTo count) a (b ∷ []) (place_is_open count a (first_of_two _ _ two)) (All-cons (IsOpenTo count) b [] (place_is_open count b (second_of_two _ _ two)) (All-nil _))
+fits_open count _ h = absurd (cc)
 
 -- arguments can be put into what may be assumed
 pub assumable_open : (count : ℕ) (q : Pred) → is_assumable count q ≡ true → All (IsOpenTo count) (places_of q)
@@ -153,6 +157,7 @@ put_in_small : (args : List Opnd) (q : Pred) → All IsSmallOperand args → Are
 put_in_small args (Nonzero x) small h = put_at_small args x.atom x small h
 put_in_small args (NoOver o bits a None) small h = absurd h
 put_in_small args (NoOver o bits a (Some b)) small h = (h.0, put_at_small args a.atom a small h.1, put_at_small args b.atom b small h.2)
+put_in_small args _ small h = absurd h
 
 supported_call : (args : List Opnd) (q r : Pred) (t : Bool) → All IsSmallOperand args → (t ≡ true → AreAssumed q) → cond t (Some (put_in q args)) None ≡ Some r → IsSmallPredicate r
 supported_call args q r true small h is = subst IsSmallPredicate (some_same _ _ is) (put_in_small args q small (h refl))

@@ -8,7 +8,7 @@ use Rattle.po_arith.specs.declared.range.Range.{Range}
 use Rattle.po_pred.specs.declared.pred.Atom.{Atom}
 use Rattle.po_pred.specs.declared.pred.Place.{Place}
 use Rattle.po_pred.specs.declared.pred.Over.{Over}
-use Rattle.po_pred.specs.declared.pred.Over.TheVariants.{Add, Sub, Mul, Div, Rem}
+use Rattle.po_pred.specs.declared.pred.Over.TheVariants.{Add, Sub, Mul, Div, Rem, Shl, Neg}
 use Rattle.po_pred.specs.declared.pred.Pred.{Pred}
 use Rattle.po_pred.specs.declared.pred.Pred.TheVariants.{Nonzero, NoOver}
 use Rattle.po_app.specs.Predicates.{IsOfType, half, MayBe, MayBeFrom, SecondMayBe, HoldsForAll}
@@ -86,6 +86,8 @@ stays_shows Sub bits a b h = difference_fits bits a b ((Decides-ends_fit bits (d
 stays_shows Mul bits a b h = product_fits bits a b ((Decides-ends_fit bits (products a b)).0 h)
 stays_shows Div bits a b h = quotient_fits bits a b ((Decides-quotient bits a b).0 h)
 stays_shows Rem bits a b h = quotient_fits bits a b ((Decides-quotient bits a b).0 h)
+stays_shows Shl bits a b h = absurd (cc)
+stays_shows Neg bits a b h = absurd (cc)
 
 -- and it passes wherever none does
 pub stays_wherever : (op : Over) (bits : ℕ) (a b : Range) → a.lo ≤ℤ a.hi → b.lo ≤ℤ b.hi → NeverLeaves op bits a b → stays op bits a b ≡ true
@@ -94,6 +96,8 @@ stays_wherever Sub bits a b sa sb n = (Decides-ends_fit bits (differences a b)).
 stays_wherever Mul bits a b sa sb n = (Decides-ends_fit bits (products a b)).1 (product_ends bits a b sa sb n)
 stays_wherever Div bits a b sa sb n = (Decides-quotient bits a b).1 (quotient_ends bits a b n)
 stays_wherever Rem bits a b sa sb n = (Decides-quotient bits a b).1 (quotient_ends bits a b n)
+stays_wherever Shl bits a b sa sb n = absurd (n a.lo b.lo (omega (arith, ints), sa) (omega (arith, ints), sb))
+stays_wherever Neg bits a b sa sb n = absurd (n a.lo b.lo (omega (arith, ints), sa) (omega (arith, ints), sb))
 
 pub stays_tells : (op : Over) (bits : ℕ) (a b : Range) → a.lo ≤ℤ a.hi → b.lo ≤ℤ b.hi → (stays op bits a b ≡ true) ↔ NeverLeaves op bits a b
 stays_tells op bits a b sa sb = (stays_shows op bits a b, stays_wherever op bits a b sa sb)
@@ -115,3 +119,4 @@ closed_for_all (Nonzero x) h = λ v may zero_there.
     (Decides-never _ (Decides-has (range_of x) (pos 0))).0 h (subst (λ z. IsIn (range_of x) z) zero_there (range_covers x v may))
 closed_for_all (NoOver op bits a b) h = λ v w may_a may_b.
     stays_shows op bits (range_of a) (second_range b) h v w (range_covers a v may_a) (second_covers b w may_b)
+closed_for_all _ h = absurd (cc)

@@ -15,7 +15,7 @@ use Rattle.po_pred.specs.declared.pred.Atom.{Atom}
 use Rattle.po_pred.specs.declared.pred.Atom.TheVariants.{Param}
 use Rattle.po_pred.specs.declared.pred.Place.{Place}
 use Rattle.po_pred.specs.declared.pred.Over.{Over}
-use Rattle.po_pred.specs.declared.pred.Over.TheVariants.{Add, Sub, Mul, Div, Rem}
+use Rattle.po_pred.specs.declared.pred.Over.TheVariants.{Add, Sub, Mul, Div, Rem, Shl, Neg}
 use Rattle.po_pred.specs.declared.pred.Pred.{Pred}
 use Rattle.po_pred.specs.declared.pred.Pred.TheVariants.{Nonzero, NoOver}
 use Rattle.po_app.specs.declared.rule.Rule.{Rule}
@@ -66,7 +66,7 @@ unfoldable pub all_places : ℕ → List Place
 all_places params = places_over None (neg_ℤ (pos (2 ^ 63))) (2 ^ 63 + 2 ^ 64) ++ parameter_places params
 
 abbrev pub operators : List Over
-operators = Add ∷ Sub ∷ Mul ∷ Div ∷ Rem ∷ []
+operators = Add ∷ Sub ∷ Mul ∷ Div ∷ Rem ∷ Shl ∷ Neg ∷ []
 
 unfoldable pub overflows : List Place → ℕ → List Pred
 overflows over bits = flat_map (λ op. flat_map (λ a. map (λ b. NoOver op bits a (Some b)) over) over) operators

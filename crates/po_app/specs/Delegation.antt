@@ -32,6 +32,7 @@ entry_second params (Some p) = Some (entry_place params p)
 abbrev pub entry_predicate : ℕ → Pred → Pred
 entry_predicate params (Nonzero x) = Nonzero (entry_place params x)
 entry_predicate params (NoOver op bits a b) = NoOver op bits (entry_place params a) (entry_second params b)
+entry_predicate params q = q
 
 abbrev pub from_to : ℤ → ℤ → Place → Bool
 from_to lo hi p = int_le lo p.lo && int_le p.lo p.hi && int_le p.hi hi
@@ -55,6 +56,7 @@ fits_parameters params (Nonzero x) = is_allowed params x && names_parameter x.at
 fits_parameters params (NoOver op bits a None) = false
 fits_parameters params (NoOver op bits a (Some b)) =
     is_allowed params a && is_allowed params b && (names_parameter a.atom || names_parameter b.atom) && (bits == 32 || bits == 64)
+fits_parameters params _ = false
 
 -- a function of so many parameters may assume it
 abbrev pub is_assumable : ℕ → Pred → Bool

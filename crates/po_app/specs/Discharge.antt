@@ -1,10 +1,10 @@
 -- Which predicates are closed: those that hold for all numbers that the ranges of their operands allow.
-use Rattle.std.specs.Prelude.{ℕ, ℤ, pos, negsuc, neg_ℤ, ◌+ℤ◌, ◌-ℤ◌, int_le, int_lt, Bool, not, ◌&&◌, Option, Some, None}
+use Rattle.std.specs.Prelude.{ℕ, ℤ, pos, negsuc, neg_ℤ, ◌+ℤ◌, ◌-ℤ◌, int_le, int_lt, Bool, false, not, ◌&&◌, Option, Some, None}
 use Rattle.po_arith.specs.declared.range.Range.{Range}
 use Rattle.po_pred.specs.declared.pred.Atom.{Atom}
 use Rattle.po_pred.specs.declared.pred.Place.{Place}
 use Rattle.po_pred.specs.declared.pred.Over.{Over}
-use Rattle.po_pred.specs.declared.pred.Over.TheVariants.{Add, Sub, Mul, Div, Rem}
+use Rattle.po_pred.specs.declared.pred.Over.TheVariants.{Add, Sub, Mul, Div, Rem, Shl, Neg}
 use Rattle.po_pred.specs.declared.pred.Pred.{Pred}
 use Rattle.po_pred.specs.declared.pred.Pred.TheVariants.{Nonzero, NoOver}
 use Rattle.po_app.specs.Predicates.{half}
@@ -46,8 +46,11 @@ stays Sub bits a b = ends_fit bits (differences a b)
 stays Mul bits a b = ends_fit bits (products a b)
 stays Div bits a b = not (has a (neg_ℤ (pos (half bits))) && has b (negsuc 0))
 stays Rem bits a b = not (has a (neg_ℤ (pos (half bits))) && has b (negsuc 0))
+stays Shl bits a b = false
+stays Neg bits a b = false
 
--- the predicate is closed by the ranges of its places
+-- the predicate is closed by the ranges of its places; other kinds never are
 abbrev pub is_closed : Pred → Bool
 is_closed (Nonzero x) = not (has (range_of x) (pos 0))
 is_closed (NoOver op bits a b) = stays op bits (range_of a) (second_range b)
+is_closed _ = false

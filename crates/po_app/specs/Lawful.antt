@@ -17,7 +17,7 @@ use Rattle.po_pred.specs.declared.pred.Atom.{Atom}
 use Rattle.po_pred.specs.declared.pred.Atom.TheVariants.{Reg, Param}
 use Rattle.po_pred.specs.declared.pred.Place.{Place}
 use Rattle.po_pred.specs.declared.pred.Over.{Over}
-use Rattle.po_pred.specs.declared.pred.Over.TheVariants.{Add, Sub, Mul, Div, Rem}
+use Rattle.po_pred.specs.declared.pred.Over.TheVariants.{Add, Sub, Mul, Div, Rem, Shl, Neg}
 use Rattle.po_pred.specs.declared.pred.Pred.{Pred}
 use Rattle.po_pred.specs.declared.pred.Pred.TheVariants.{Nonzero, NoOver}
 use Rattle.po_app.specs.declared.rule.Rule.TheVariants.{Range}
@@ -175,6 +175,8 @@ operator_among Sub = inr (inl refl)
 operator_among Mul = inr (inr (inl refl))
 operator_among Div = inr (inr (inr (inl refl)))
 operator_among Rem = inr (inr (inr (inr (inl refl))))
+operator_among Shl = inr (inr (inr (inr (inr (inl refl)))))
+operator_among Neg = inr (inr (inr (inr (inr (inr (inl refl))))))
 
 contains_overflow : (over : List Place) (bits : ℕ) (op : Over) (a b : Place) → Contains over a → Contains over b → Contains (overflows over bits) (NoOver op bits a (Some b))
 unfolding overflows
@@ -216,6 +218,7 @@ predicate_among params most (NoOver op bits a (Some b)) few h =
     let two = first_of_two _ _ three in
     overflow_among (all_places most) bits op a b (width_is bits (second_of_two _ _ h))
     (place_among params most a few (first_of_two _ _ two)) (place_among params most b few (second_of_two _ _ two))
+predicate_among params most _ few h = absurd (cc)
 
 most_at_least : (fs : List Function) (i : ℕ) (f : Function) → slice_get fs i ≡ Some f → f.graph.params ≤ most_params fs
 most_at_least [] i f h = absurd (cc)

@@ -78,11 +78,13 @@ abbrev pub SecondHasNumber : Frame → Option Place → Type 0
 SecondHasNumber frame None = Unit {0}
 SecondHasNumber frame (Some p) = HasNumber frame p
 
--- a predicate in a frame: it holds for each choice of its places' numbers, and never where a place has no value
+-- a predicate in a frame: it holds for each choice of its places' numbers, and never where a place has no value; kinds that
+-- aren't served never hold
 abbrev pub Holds : Frame → Pred → Type 0
 Holds frame (Nonzero x) = HasNumber frame x × ((v : ℤ) → Chooses frame x v → v ≢ pos 0)
 Holds frame (NoOver op bits a b) =
     HasNumber frame a × SecondHasNumber frame b × ((v w : ℤ) → Chooses frame a v → SecondChooses frame b w → Fits op bits v w)
+Holds frame _ = ⊥
 
 -- the node at which a frame stands
 abbrev pub node_under : Project → Frame → Option Node

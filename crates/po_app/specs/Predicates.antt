@@ -3,7 +3,7 @@ use Rattle.std.specs.Prelude.{ℕ, ◌-◌, ◌^◌, ◌≡◌, ◌≢◌, ℤ, 
 use Rattle.po_pred.specs.declared.pred.Atom.{Atom}
 use Rattle.po_pred.specs.declared.pred.Place.{Place}
 use Rattle.po_pred.specs.declared.pred.Over.{Over}
-use Rattle.po_pred.specs.declared.pred.Over.TheVariants.{Add, Sub, Mul, Div, Rem}
+use Rattle.po_pred.specs.declared.pred.Over.TheVariants.{Add, Sub, Mul, Div, Rem, Shl, Neg}
 use Rattle.po_pred.specs.declared.pred.Pred.{Pred}
 use Rattle.po_pred.specs.declared.pred.Pred.TheVariants.{Nonzero, NoOver}
 
@@ -16,13 +16,15 @@ abbrev pub IsOfType : ℕ → ℤ → Type 0
 IsOfType bits v = (neg_ℤ (pos (half bits)) ≤ℤ v) × (v <ℤ pos (half bits))
 
 -- the result doesn't leave the signed type of this width (6.5p5); for `/` and `%` (6.5.5p6) it leaves it only where
--- the least number is divided by -1
+-- the least number is divided by -1; of shifts and negations, which aren't served, nothing is known
 abbrev pub Fits : Over → ℕ → ℤ → ℤ → Type 0
 Fits Add bits v w = IsOfType bits (v +ℤ w)
 Fits Sub bits v w = IsOfType bits (v -ℤ w)
 Fits Mul bits v w = IsOfType bits (v *ℤ w)
 Fits Div bits v w = (v ≡ neg_ℤ (pos (half bits))) × (w ≡ negsuc 0) → ⊥
 Fits Rem bits v w = (v ≡ neg_ℤ (pos (half bits))) × (w ≡ negsuc 0) → ⊥
+Fits Shl bits v w = ⊥
+Fits Neg bits v w = ⊥
 
 -- v is u moved by a number of the place
 abbrev pub IsMoved : Place → ℤ → ℤ → Type 0
@@ -41,10 +43,11 @@ abbrev pub SecondMayBe : Option Place → ℤ → Type 0
 SecondMayBe None w = w ≡ pos 0
 SecondMayBe (Some p) w = MayBe p w
 
--- the predicate holds for all values that its places may have
+-- the predicate holds for all values that its places may have; no other kind is served, and none is known to hold
 abbrev pub HoldsForAll : Pred → Type 0
 HoldsForAll (Nonzero x) = (v : ℤ) → MayBe x v → v ≢ pos 0
 HoldsForAll (NoOver op bits a b) = (v w : ℤ) → MayBe a v → SecondMayBe b w → Fits op bits v w
+HoldsForAll _ = ⊥
 
 -- the place has a number
 abbrev pub HasANumber : Place → Type 0
@@ -58,3 +61,4 @@ SecondHasANumber (Some p) = HasANumber p
 abbrev pub HaveNumbers : Pred → Type 0
 HaveNumbers (Nonzero x) = HasANumber x
 HaveNumbers (NoOver op bits a b) = HasANumber a × SecondHasANumber b
+HaveNumbers _ = Unit {0}

@@ -50,6 +50,7 @@ IsSmallSecond (Some p) = IsSmallPlace p
 abbrev pub IsSmallPredicate : Pred → Type 0
 IsSmallPredicate (Nonzero x) = IsSmallPlace x
 IsSmallPredicate (NoOver op bits a b) = IsWidth bits × IsSmallPlace a × IsSmallSecond b
+IsSmallPredicate _ = Unit {0}
 
 abbrev pub IsSmallOperand : Opnd → Type 0
 IsSmallOperand (Reg r) = Unit {0}

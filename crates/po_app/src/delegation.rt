@@ -74,6 +74,7 @@ pub(crate) fn entry_predicate(params: u32, predicate: &Pred) -> Pred
             a: entry_place(params, a),
             b: entry_second(params, b),
         },
+        _ => *predicate,
     }
 }
 
@@ -143,6 +144,7 @@ fn fits_parameters(params: u32, predicate: &Pred) -> bool
                 && either_names_parameter(a, b)
                 && is_width(*bits)
         }
+        _ => false,
     }
 }
 

@@ -46,5 +46,6 @@ pub(crate) fn is_closed(predicate: &Pred) -> bool
             let second = second_range(b);
             stays(*op, *bits, &first, &second)
         }
+        _ => false,
     }
 }

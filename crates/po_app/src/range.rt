@@ -97,5 +97,6 @@ pub(crate) fn stays(op: Over, bits: u8, a: &Range, b: &Range) -> bool
         Over::Mul => products_fit(bits, a, b),
         Over::Div => never_least_by_minus_one(bits, a, b),
         Over::Rem => never_least_by_minus_one(bits, a, b),
+        Over::Shl | Over::Neg => false,
     }
 }

@@ -9,10 +9,10 @@ ghost use Rattle.po_app.specs.Numbering.{StandInOrder, IsIndexAt, IsIndexBefore}
 use crate::rule::Rule;
 use crate::tally::{Line, Tally};
 use crate::verdict::predicate_of;
-use po_base::{FunNo, List, Memory, Text};
+use po_base::{FunNo, List, Memory, Out, Text};
 use po_core::{Obl, Report, Verdict};
 use po_ir::{Function, Node, Project};
-use po_pred::{Out, Pred, spell};
+use po_pred::{Pred, spell};
 use std::alloc::Global;
 
 /// The names of a function's registers, some without.

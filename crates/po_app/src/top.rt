@@ -22,11 +22,11 @@ use crate::solve::report_of;
 use crate::status::Status;
 use crate::tally::Tally;
 use crate::words::file_to_check;
-use po_base::{List, Memory, Text};
+use po_base::{List, Memory, Out, Text};
 use po_core::Report;
 use po_io::{Files, ReadFail, Sink, read_file, write_all};
 use po_ir::Project;
-use po_pred::{Out, Pred};
+use po_pred::Pred;
 use po_straight::{Definition, read_definitions};
 use std::alloc::Global;
 

@@ -1,2 +1,3 @@
-pub mod Places
+pub mod General
+pub mod Listed
 pub mod Moved

@@ -1,5 +1,7 @@
+pub mod View
 pub mod Order
 pub mod OrderLaws
+pub mod Spelling
 pub mod Subst
 pub mod Weight
-pub mod Spelling
+pub mod Finite

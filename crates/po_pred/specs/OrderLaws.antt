@@ -1,21 +1,25 @@
 -- The comparison of predicates is an order, and equal predicates are the same.
-use Rattle.std.specs.Prelude.{ℕ, ℤ, ◌<◌, ◌<ℤ◌, List, [], ◌∷◌, Option, Some, None, ◌≡◌, ◌↔◌, IsTrue}
+use Rattle.std.specs.Prelude.{ℕ, ℤ, ◌<◌, ◌<ℤ◌, [], ◌∷◌, Option, Some, None, ◌≡◌, ◌↔◌, IsTrue, slice_index_or}
 use Rattle.std.proofs.Common.{refl, sym, ap, ◌∙◌, subst, arith}
-use Rattle.std.specs.Option.{option_to_list}
+use Rattle.std.specs.Option.{option_cmp}
 use Rattle.std.specs.declared.cmp.Ordering.{Ordering}
 use Rattle.std.specs.declared.cmp.Ordering.TheVariants.{Less, Equal, Greater}
 use Rattle.std.specs.Ordering.{nat_cmp, int_cmp, ordering_then, ordering_reverse, is_eq, eq_by_cmp, MatchOrdering}
 use Rattle.std.specs.Cmp.{IsTotalOrder, then_total, on_total, nat_cmp_total, int_cmp_total, Equal-is, tied_itself}
-use Rattle.std.specs.Cmp.Lexicographic.{slice_cmp, lists_total}
+use Rattle.std.specs.Cmp.Lexicographic.{options_total}
 use Rattle.std.proofs.lemmas.Cmp.{ranked, int_ranked}
 use Rattle.po_pred.specs.declared.pred.Atom.{Atom}
 use Rattle.po_pred.specs.declared.pred.Atom.TheVariants.{Reg, Param}
 use Rattle.po_pred.specs.declared.pred.Place.{Place}
 use Rattle.po_pred.specs.declared.pred.Over.{Over}
-use Rattle.po_pred.specs.declared.pred.Over.TheVariants.{Add, Sub, Mul, Div, Rem}
+use Rattle.po_pred.specs.declared.pred.Over.TheVariants.{Add, Sub, Mul, Div, Rem, Shl, Neg}
+use Rattle.po_pred.specs.declared.pred.Why.{Why}
+use Rattle.po_pred.specs.declared.pred.Why.TheVariants.{Unread, End, Extern}
 use Rattle.po_pred.specs.declared.pred.Pred.{Pred}
-use Rattle.po_pred.specs.declared.pred.Pred.TheVariants.{Nonzero, NoOver}
-use Rattle.po_pred.specs.Order.{atom_rank, atom_number, place_cmp, kind_rank, operator_rank, operator_of, width_of, places_of, pred_cmp, IsOrder}
+use Rattle.po_pred.specs.declared.pred.Pred.TheVariants.{NotNull, Live, Span, Filled, RegSet, Writable, Nonzero, NoOver, IntIn, Aligned, SameBlock, HeapStart, Terminated, Apart, RoomFor, Never}
+use Rattle.po_pred.specs.declared.view.View.{View}
+use Rattle.po_pred.specs.View.{view_of, viewed}
+use Rattle.po_pred.specs.Order.{atom_rank, atom_number, place_cmp, operator_rank, places_cmp, numbers_cmp, view_cmp, pred_cmp, IsOrder}
 
 -- ---- total
 
@@ -25,11 +29,24 @@ place_total =
     (then_total (on_total (λ p. atom_number p.atom) nat_cmp_total)
     (then_total (on_total (λ p. p.lo) int_cmp_total) (on_total (λ p. p.hi) int_cmp_total)))
 
+places_total : IsTotalOrder places_cmp
+places_total =
+    then_total (on_total (λ v. v.first) (options_total place_total))
+    (then_total (on_total (λ v. v.second) (options_total place_total)) (on_total (λ v. v.third) (options_total place_total)))
+
+numbers_total : IsTotalOrder numbers_cmp
+numbers_total =
+    then_total (on_total (λ v. v.factor) int_cmp_total)
+    (then_total (on_total (λ v. v.low) int_cmp_total) (on_total (λ v. v.high) int_cmp_total))
+
+view_total : IsTotalOrder view_cmp
+view_total =
+    then_total (on_total (λ v. v.kind) nat_cmp_total)
+    (then_total (on_total (λ v. operator_rank v.operator) nat_cmp_total)
+    (then_total (on_total (λ v. v.width) nat_cmp_total) (then_total places_total numbers_total)))
+
 pub pred_total : IsTotalOrder pred_cmp
-pred_total =
-    then_total (on_total kind_rank nat_cmp_total)
-    (then_total (on_total operator_of nat_cmp_total)
-    (then_total (on_total width_of nat_cmp_total) (on_total places_of (lists_total place_total))))
+pred_total = on_total view_of view_total
 
 -- ---- equal is the same
 
@@ -68,59 +85,76 @@ place_same p q same =
     let hi = int_same _ _ at_lo.1 in
     λ i. record { atom = atom i; lo = lo i; hi = hi i }
 
-places_same : (xs ys : List Place) → slice_cmp place_cmp xs ys ≡ Equal → xs ≡ ys
-places_same [] [] same = refl
-places_same [] (y ∷ ys) same = cc
-places_same (x ∷ xs) [] same = cc
-places_same (x ∷ xs) (y ∷ ys) same =
-    let at = both _ _ same in
-    let first = place_same x y at.0 in
-    let rest = places_same xs ys at.1 in
-    λ i. first i ∷ rest i
+optional_same : (x y : Option Place) → option_cmp place_cmp x y ≡ Equal → x ≡ y
+optional_same None None same = refl
+optional_same None (Some y) same = cc
+optional_same (Some x) None same = cc
+optional_same (Some x) (Some y) same = ap Some (place_same x y same)
 
-operator_same : (o p : Over) → operator_rank o ≡ operator_rank p → o ≡ p
-operator_same Add Add rank = refl
-operator_same Sub Sub rank = refl
-operator_same Mul Mul rank = refl
-operator_same Div Div rank = refl
-operator_same Rem Rem rank = refl
-operator_same _ _ rank = absurd (omega arith)
+-- the operator of a number
+abbrev operator_at : ℕ → Option Over
+operator_at n = slice_index_or (None ∷ Some Add ∷ Some Sub ∷ Some Mul ∷ Some Div ∷ Some Rem ∷ Some Shl ∷ Some Neg ∷ []) n None
 
-abbrev first_or : Place → List Place → Place
-first_or d [] = d
-first_or d (x ∷ xs) = x
+operator_back : (op : Option Over) → operator_at (operator_rank op) ≡ op
+operator_back None = refl
+operator_back (Some Add) = refl
+operator_back (Some Sub) = refl
+operator_back (Some Mul) = refl
+operator_back (Some Div) = refl
+operator_back (Some Rem) = refl
+operator_back (Some Shl) = refl
+operator_back (Some Neg) = refl
 
-abbrev rest_of : List Place → List Place
-rest_of [] = []
-rest_of (x ∷ xs) = xs
+operator_same : (o p : Option Over) → operator_rank o ≡ operator_rank p → o ≡ p
+operator_same o p rank = sym (operator_back o) ∙ ap operator_at rank ∙ operator_back p
 
-abbrev listed : List Place → Option Place
-listed [] = None
-listed (x ∷ xs) = Some x
-
-listed_back : (b : Option Place) → listed (option_to_list b) ≡ b
-listed_back None = refl
-listed_back (Some x) = refl
-
-second_same : (b c : Option Place) → option_to_list b ≡ option_to_list c → b ≡ c
-second_same b c same = sym (listed_back b) ∙ ap listed same ∙ listed_back c
-
-pred_from_parts : (p q : Pred) → kind_rank p ≡ kind_rank q → operator_of p ≡ operator_of q → width_of p ≡ width_of q → places_of p ≡ places_of q → p ≡ q
-pred_from_parts (Nonzero x) (Nonzero y) kind operator width places = ap (λ ps. Nonzero (first_or x ps)) places
-pred_from_parts (Nonzero x) (NoOver op bits a b) kind operator width places = absurd (omega arith)
-pred_from_parts (NoOver op bits a b) (Nonzero y) kind operator width places = absurd (omega arith)
-pred_from_parts (NoOver o m a b) (NoOver p n c d) kind operator width places =
-    let op = operator_same o p operator in
-    let first = ap (first_or a) places in
-    let second = second_same b d (ap rest_of places) in
-    λ i. NoOver (op i) (width i) (first i) (second i)
-
-pred_same : (p q : Pred) → pred_cmp p q ≡ Equal → p ≡ q
-pred_same p q same =
+view_same : (v w : View) → view_cmp v w ≡ Equal → v ≡ w
+view_same v w same =
     let at_kind = both _ _ same in
     let at_operator = both _ _ at_kind.1 in
     let at_width = both _ _ at_operator.1 in
-    pred_from_parts p q (nat_same _ _ at_kind.0) (nat_same _ _ at_operator.0) (nat_same _ _ at_width.0) (places_same _ _ at_width.1)
+    let at_places = both (places_cmp v w) (numbers_cmp v w) at_width.1 in
+    let at_first = both _ _ at_places.0 in
+    let at_second = both _ _ at_first.1 in
+    let at_factor = both _ _ at_places.1 in
+    let at_low = both _ _ at_factor.1 in
+    let kind = nat_same _ _ at_kind.0 in
+    let operator = operator_same v.operator w.operator (nat_same _ _ at_operator.0) in
+    let width = nat_same _ _ at_width.0 in
+    let first = optional_same _ _ at_first.0 in
+    let second = optional_same _ _ at_second.0 in
+    let third = optional_same _ _ at_second.1 in
+    let factor = int_same _ _ at_factor.0 in
+    let low = int_same _ _ at_low.0 in
+    let high = int_same _ _ at_low.1 in
+    λ i. record { kind = kind i; operator = operator i; width = width i; first = first i; second = second i; third = third i; factor = factor i; low = low i; high = high i }
+
+-- a predicate is what its view says
+pub viewed_back : (p : Pred) → viewed (view_of p) ≡ p
+viewed_back (NotNull p) = refl
+viewed_back (Live p) = refl
+viewed_back (Span p factor lo hi) = refl
+viewed_back (Filled p factor lo hi) = refl
+viewed_back (RegSet v) = refl
+viewed_back (Writable p) = refl
+viewed_back (Nonzero x) = refl
+viewed_back (NoOver op bits a b) = refl
+viewed_back (IntIn x lo hi) = refl
+viewed_back (Aligned p a) = refl
+viewed_back (SameBlock p q) = refl
+viewed_back (HeapStart p) = refl
+viewed_back (Terminated p) = refl
+viewed_back (Apart p q n) = refl
+viewed_back (RoomFor p q) = refl
+viewed_back (Never Unread) = refl
+viewed_back (Never End) = refl
+viewed_back (Never Extern) = refl
+
+pub views_tell : (p q : Pred) → view_of p ≡ view_of q → p ≡ q
+views_tell p q same = sym (viewed_back p) ∙ ap viewed same ∙ viewed_back q
+
+pred_same : (p q : Pred) → pred_cmp p q ≡ Equal → p ≡ q
+pred_same p q same = views_tell p q (view_same (view_of p) (view_of q) same)
 
 -- ---- the order
 

@@ -1,14 +1,18 @@
 -- The spelling of predicates.
-use Rattle.std.specs.Prelude.{ℕ, ℤ, pos, negsuc, ◌++◌, ◌==◌, List, [], codes, take, count_by, Option, Some, None, slice_get, cond, is_none}
+use Rattle.std.specs.Prelude.{ℕ, ℤ, pos, negsuc, neg_ℤ, ◌*ℤ◌, ◌++◌, ◌==◌, ◌&&◌, ◌^◌, Bool, List, [], ◌∷◌, codes, take, count_by, Option, Some, None, slice_get, slice_index_or, cond, is_none, int_lt}
 use Rattle.std.specs.Fmt.{decimal, signed_decimal}
 use Rattle.std.specs.Ordering.{int_eq}
 use Rattle.po_pred.specs.declared.pred.Atom.{Atom}
 use Rattle.po_pred.specs.declared.pred.Atom.TheVariants.{Reg, Param}
 use Rattle.po_pred.specs.declared.pred.Place.{Place}
 use Rattle.po_pred.specs.declared.pred.Over.{Over}
-use Rattle.po_pred.specs.declared.pred.Over.TheVariants.{Add, Sub, Mul, Div, Rem}
+use Rattle.po_pred.specs.declared.pred.Over.TheVariants.{Add, Sub, Mul, Div, Rem, Shl, Neg}
+use Rattle.po_pred.specs.declared.pred.Why.{Why}
+use Rattle.po_pred.specs.declared.pred.Why.TheVariants.{Unread, End, Extern}
 use Rattle.po_pred.specs.declared.pred.Pred.{Pred}
-use Rattle.po_pred.specs.declared.pred.Pred.TheVariants.{Nonzero, NoOver}
+use Rattle.po_pred.specs.declared.pred.Pred.TheVariants.{RegSet, IntIn, Aligned, Never}
+use Rattle.po_pred.specs.declared.view.View.{View}
+use Rattle.po_pred.specs.View.{view_of}
 
 -- a name for each register, where it has one
 abbrev pub Names : Type 0
@@ -51,23 +55,84 @@ text_at (Some a) names lo hi = atom_text names a ++ offset_text lo hi
 abbrev pub place_text : Names → Place → List ℕ
 place_text names p = text_at p.atom names p.lo p.hi
 
-abbrev pub operator_text : Over → List ℕ
-operator_text Add = codes "add"
-operator_text Sub = codes "sub"
-operator_text Mul = codes "mul"
-operator_text Div = codes "div"
-operator_text Rem = codes "rem"
+-- below 2^64 in size, as all numbers of a project are that stand behind a factor
+abbrev pub is_narrow : ℤ → Bool
+is_narrow v = int_lt (neg_ℤ (pos (2 ^ 64))) v && int_lt v (pos (2 ^ 64))
+
+-- a factor before a place, whose offset isn't multiplied
+abbrev pub factor_text : Names → ℤ → Place → List ℕ
+factor_text names k p = signed_decimal k ++ codes "*" ++ place_text names p
+
+abbrev pub multiplied : ℤ → Place → Place
+multiplied k p = record { atom = None; lo = k *ℤ p.lo; hi = k *ℤ p.hi }
+
+abbrev pub multiplied_text : ℤ → Place → List ℕ
+multiplied_text k p = range_text (multiplied k p).lo (multiplied k p).hi
+
+-- numbers are multiplied out, and stay in their order where the factor is negative
+abbrev pub numbers_text : Names → ℤ → Place → List ℕ
+numbers_text names k p = cond (is_narrow p.lo) (cond (is_narrow p.hi) (multiplied_text k p) (factor_text names k p)) (factor_text names k p)
+
+abbrev pub multiple_text : Option Atom → Names → ℤ → Place → List ℕ
+multiple_text None names k p = numbers_text names k p
+multiple_text (Some a) names k p = factor_text names k p
+
+-- a place and the factor before it, where that isn't 1
+abbrev pub scaled_text : Names → ℤ → Place → List ℕ
+scaled_text names k p = cond (int_eq k (pos 1)) (place_text names p) (multiple_text p.atom names k p)
+
+-- the kinds in their order
+abbrev pub kind_names : List (List ℕ)
+kind_names = codes "not_null" ∷ codes "live" ∷ codes "span" ∷ codes "filled" ∷ codes "reg_set" ∷ codes "writable" ∷ codes "nonzero" ∷ codes "no_over" ∷ codes "int_in" ∷ codes "aligned" ∷ codes "same_block" ∷ codes "heap_start" ∷ codes "terminated" ∷ codes "apart" ∷ codes "room_for" ∷ codes "never" ∷ []
+
+abbrev pub kind_text : ℕ → List ℕ
+kind_text kind = slice_index_or kind_names kind []
+
+abbrev pub operator_name : Over → List ℕ
+operator_name Add = codes "add"
+operator_name Sub = codes "sub"
+operator_name Mul = codes "mul"
+operator_name Div = codes "div"
+operator_name Rem = codes "rem"
+operator_name Shl = codes "shl"
+operator_name Neg = codes "neg"
 
 -- 64-bit operators are `add64` and so on
 abbrev pub width_text : ℕ → List ℕ
 width_text bits = cond (bits == 64) (codes "64") []
 
-abbrev pub second_text : Names → Option Place → List ℕ
-second_text names None = []
-second_text names (Some b) = codes "," ++ place_text names b
+-- an operator stands before the places
+abbrev pub operator_text : Option Over → ℕ → List ℕ
+operator_text None bits = []
+operator_text (Some op) bits = operator_name op ++ width_text bits ++ codes ","
 
--- nonzero(X), no_over(OP,A,B)
+abbrev pub first_text : Names → Option Place → List ℕ
+first_text names None = []
+first_text names (Some p) = place_text names p
+
+-- places are joined by commas
+abbrev pub further_text : Names → ℤ → Option Place → List ℕ
+further_text names k None = []
+further_text names k (Some p) = codes "," ++ scaled_text names k p
+
+abbrev pub why_text : Why → List ℕ
+why_text Unread = codes "unread"
+why_text End = codes "end"
+why_text Extern = codes "extern"
+
+-- what stands behind the places
+abbrev pub rest_text : Names → Pred → List ℕ
+rest_text names (RegSet v) = register_text names v.0
+rest_text names (IntIn x lo hi) = codes "," ++ signed_decimal lo ++ codes "," ++ signed_decimal hi
+rest_text names (Aligned p a) = codes "," ++ signed_decimal (pos a)
+rest_text names (Never why) = why_text why
+rest_text names _ = []
+
+abbrev pub places_text : Names → View → List ℕ
+places_text names v = first_text names v.first ++ further_text names v.factor v.second ++ further_text names v.factor v.third
+
+-- a kind and in parentheses its operator, its places and its other numbers
 abbrev pub predicate_text : Names → Pred → List ℕ
-predicate_text names (Nonzero x) = codes "nonzero(" ++ place_text names x ++ codes ")"
-predicate_text names (NoOver op bits a b) =
-    codes "no_over(" ++ operator_text op ++ width_text bits ++ codes "," ++ place_text names a ++ second_text names b ++ codes ")"
+predicate_text names p =
+    let v = view_of p in
+    kind_text v.kind ++ codes "(" ++ operator_text v.operator v.width ++ places_text names v ++ rest_text names p ++ codes ")"

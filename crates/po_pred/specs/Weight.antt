@@ -5,7 +5,7 @@ use Rattle.std.specs.Ordering.{int_eq}
 use Rattle.po_pred.specs.declared.pred.Atom.{Atom}
 use Rattle.po_pred.specs.declared.pred.Place.{Place}
 use Rattle.po_pred.specs.declared.pred.Pred.{Pred}
-use Rattle.po_pred.specs.Order.{places_of}
+use Rattle.po_pred.specs.View.{places_of}
 
 -- a number weighs 1, a range of numbers 2
 abbrev pub range_weight : ℤ → ℤ → ℕ
@@ -21,6 +21,11 @@ weight_at (Some a) lo hi = offset_weight lo hi
 
 abbrev pub place_weight : Place → ℕ
 place_weight p = weight_at p.atom p.lo p.hi
+
+-- a missing place weighs nothing
+abbrev pub optional_weight : Option Place → ℕ
+optional_weight None = 0
+optional_weight (Some p) = place_weight p
 
 -- 1, and the weights of the places
 abbrev pub weight_of : Pred → ℕ

@@ -1,13 +1,13 @@
-ghost use Rattle.std.specs.Prelude.{◌≡◌, slice_get, Some};
-ghost use Rattle.std.proofs.Common.{rules, refl};
+ghost use Rattle.std.specs.Prelude.{◌≡◌};
+ghost use Rattle.std.proofs.Common.{rules};
 ghost use Rattle.std.specs.Cmp.{partial_equiv_from_equiv, eq_by_cmp_equiv, partial_order_from_total};
-ghost use Rattle.std.specs.Cmp.Lexicographic.{slice_cmp};
 ghost use Rattle.std.specs.Ordering.{eq_by_cmp, as_partial_cmp};
 ghost use Rattle.po_pred.specs.Order as order;
-ghost use Rattle.po_pred.specs.Order.{place_cmp, pred_cmp, places_of};
+ghost use Rattle.po_pred.specs.Order.{place_cmp, pred_cmp};
 ghost use Rattle.po_pred.specs.OrderLaws.{place_total, pred_total};
 
 use crate::pred::{Atom, Over, Place, Pred};
+use crate::view::{View, view_of};
 use std::cmp::Ordering;
 
 fn atom_rank(place: &Place) -> u8
@@ -74,70 +74,48 @@ impl Ord for Place {
     }
 }
 
-fn kind_rank(predicate: &Pred) -> u8
-    ensures { result ≡ order.kind_rank predicate.now }
-{
-    match predicate {
-        Pred::Nonzero { .. } => 0,
-        Pred::NoOver { .. } => 1,
-    }
-}
-
-fn operator_rank(op: Over) -> u8
-    ensures { result ≡ order.operator_rank op }
+fn operator_rank(op: &Option<Over>) -> u8
+    ensures { result ≡ order.operator_rank op.now }
 {
     match op {
-        Over::Add => 0,
-        Over::Sub => 1,
-        Over::Mul => 2,
-        Over::Div => 3,
-        Over::Rem => 4,
+        None => 0,
+        Some(Over::Add) => 1,
+        Some(Over::Sub) => 2,
+        Some(Over::Mul) => 3,
+        Some(Over::Div) => 4,
+        Some(Over::Rem) => 5,
+        Some(Over::Shl) => 6,
+        Some(Over::Neg) => 7,
     }
 }
 
-fn operator(predicate: &Pred) -> u8
-    ensures { result ≡ order.operator_of predicate.now }
+fn cmp_places(a: &View, b: &View) -> Ordering
+    ensures { result ≡ order.places_cmp a.now b.now }
 {
-    match predicate {
-        Pred::Nonzero { .. } => 0,
-        Pred::NoOver { op, .. } => operator_rank(*op),
-    }
+    a.first
+        .cmp(&b.first)
+        .then(a.second.cmp(&b.second))
+        .then(a.third.cmp(&b.third))
 }
 
-fn width(predicate: &Pred) -> u8
-    ensures { result ≡ order.width_of predicate.now }
+fn cmp_numbers(a: &View, b: &View) -> Ordering
+    ensures { result ≡ order.numbers_cmp a.now b.now }
 {
-    match predicate {
-        Pred::Nonzero { .. } => 0,
-        Pred::NoOver { bits, .. } => *bits,
-    }
+    a.factor
+        .cmp(&b.factor)
+        .then(a.low.cmp(&b.low))
+        .then(a.high.cmp(&b.high))
 }
 
-/// The first place, in the order of the fields.
-fn first_place(predicate: &Pred) -> Option<Place>
-    ensures { result ≡ slice_get (places_of predicate.now) 0 }
+fn cmp_views(a: &View, b: &View) -> Ordering
+    ensures { result ≡ order.view_cmp a.now b.now }
 {
-    match predicate {
-        Pred::Nonzero { x } => Some(*x),
-        Pred::NoOver { a, .. } => Some(*a),
-    }
-}
-
-fn second_place(predicate: &Pred) -> Option<Place>
-    ensures { result ≡ slice_get (places_of predicate.now) 1 }
-{
-    match predicate {
-        Pred::Nonzero { .. } => None,
-        Pred::NoOver { b, .. } => *b,
-    }
-}
-
-fn cmp_places(a: &Pred, b: &Pred) -> Ordering
-    ensures { result ≡ slice_cmp place_cmp (places_of a.now) (places_of b.now) }
-{
-    first_place(a)
-        .cmp(&first_place(b))
-        .then(second_place(a).cmp(&second_place(b)))
+    a.kind
+        .cmp(&b.kind)
+        .then(operator_rank(&a.operator).cmp(&operator_rank(&b.operator)))
+        .then(a.width.cmp(&b.width))
+        .then(cmp_places(a, b))
+        .then(cmp_numbers(a, b))
 }
 
 impl PartialEq for Pred {
@@ -164,7 +142,8 @@ impl PartialOrd for Pred {
     }
 }
 
-/// By kind, then by operator, then by width, then by places in the order of their fields. In constant time.
+/// By kind, then by operator, then by width, then by places in the order of their fields, then by the other numbers.
+/// In constant time.
 impl Ord for Pred {
     ghost cmp = { pred_cmp };
 
@@ -175,10 +154,6 @@ impl Ord for Pred {
     ghost matches_eq = { Prim.search rules };
 
     fn cmp(&self, other: &Pred) -> Ordering {
-        kind_rank(self)
-            .cmp(&kind_rank(other))
-            .then(operator(self).cmp(&operator(other)))
-            .then(width(self).cmp(&width(other)))
-            .then(cmp_places(self, other))
+        cmp_views(&view_of(self), &view_of(other))
     }
 }

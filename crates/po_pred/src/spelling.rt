@@ -1,9 +1,10 @@
-ghost use Rattle.std.specs.Prelude.{◌≡◌, ◌++◌, IfOk, OnOk};
+ghost use Rattle.std.specs.Prelude.{◌≡◌, ◌++◌, ◌*ℤ◌, true, IfOk, OnOk};
 ghost use Rattle.po_pred.specs.Spelling as spelling;
+ghost use Rattle.po_pred.specs.View.{view_of};
 
-use crate::out::Out;
-use crate::pred::{Atom, Over, Place, Pred};
-use po_base::{Memory, RegNo, Text};
+use crate::pred::{Atom, Over, Place, Pred, Why};
+use crate::view::{View, view_of};
+use po_base::{Memory, Out, RegNo, Text};
 use std::alloc::Global;
 
 /// Adds a register's name, or `%k` where it is the k-th without a name.
@@ -85,15 +86,116 @@ fn add_place(out: &mut Out, names: &[Option<Text>], place: &Place) -> Result<(),
     }
 }
 
-fn add_operator(out: &mut Out, op: Over) -> Result<(), Memory>
-    ensures { OnOk result (out.new ≡ out.old ++ spelling.operator_text op) }
+/// Adds a factor before a place, whose offset isn't multiplied.
+fn add_with_factor(out: &mut Out, names: &[Option<Text>], factor: i64, place: &Place) -> Result<(), Memory>
+    ensures { OnOk result (out.new ≡ out.old ++ spelling.factor_text names.now factor place.now) }
+{
+    out.add_whole(i128::from(factor))?;
+    out.add(b"*")?;
+    add_place(out, names, place)
+}
+
+/// Whether a number lies below 2^64 in size.
+fn is_narrow(number: i128) -> bool
+    ensures { result ≡ spelling.is_narrow number }
+{
+    -18_446_744_073_709_551_616 < number && number < 18_446_744_073_709_551_616
+}
+
+/// The multiple of a number.
+fn multiple(factor: i64, number: i128) -> i128
+    requires { spelling.is_narrow number ≡ true }
+    ensures { result ≡ factor *ℤ number }
+{
+    i128::from(factor) * number
+}
+
+/// The ends of a range of numbers, multiplied.
+fn multiplied(factor: i64, place: &Place) -> Place
+    requires low { spelling.is_narrow place.now.lo ≡ true }
+    requires high { spelling.is_narrow place.now.hi ≡ true }
+    ensures { result ≡ spelling.multiplied factor place.now }
+{
+    Place {
+        atom: None,
+        lo: multiple(factor, place.lo),
+        hi: multiple(factor, place.hi),
+    }
+}
+
+fn add_multiplied(out: &mut Out, factor: i64, place: &Place) -> Result<(), Memory>
+    requires low { spelling.is_narrow place.now.lo ≡ true }
+    requires high { spelling.is_narrow place.now.hi ≡ true }
+    ensures { OnOk result (out.new ≡ out.old ++ spelling.multiplied_text factor place.now) }
+{
+    let ends = multiplied(factor, place);
+    add_range(out, &ends)
+}
+
+fn add_numbers(out: &mut Out, names: &[Option<Text>], factor: i64, place: &Place) -> Result<(), Memory>
+    ensures { OnOk result (out.new ≡ out.old ++ spelling.numbers_text names.now factor place.now) }
+{
+    if !is_narrow(place.lo) {
+        return add_with_factor(out, names, factor, place);
+    }
+    if !is_narrow(place.hi) {
+        return add_with_factor(out, names, factor, place);
+    }
+    add_multiplied(out, factor, place)
+}
+
+fn add_multiple(out: &mut Out, names: &[Option<Text>], factor: i64, place: &Place) -> Result<(), Memory>
+    ensures { OnOk result (out.new ≡ out.old ++ spelling.multiple_text place.now.atom names.now factor place.now) }
+{
+    match place.atom {
+        None => add_numbers(out, names, factor, place),
+        Some(_) => add_with_factor(out, names, factor, place),
+    }
+}
+
+fn add_scaled(out: &mut Out, names: &[Option<Text>], factor: i64, place: &Place) -> Result<(), Memory>
+    ensures { OnOk result (out.new ≡ out.old ++ spelling.scaled_text names.now factor place.now) }
+{
+    if factor == 1 {
+        return add_place(out, names, place);
+    }
+    add_multiple(out, names, factor, place)
+}
+
+fn kind_text(predicate: &Pred) -> &'static [u8]
+    ensures { result.now ≡ spelling.kind_text (view_of predicate.now).kind }
+{
+    match predicate {
+        Pred::NotNull { .. } => b"not_null",
+        Pred::Live { .. } => b"live",
+        Pred::Span { .. } => b"span",
+        Pred::Filled { .. } => b"filled",
+        Pred::RegSet { .. } => b"reg_set",
+        Pred::Writable { .. } => b"writable",
+        Pred::Nonzero { .. } => b"nonzero",
+        Pred::NoOver { .. } => b"no_over",
+        Pred::IntIn { .. } => b"int_in",
+        Pred::Aligned { .. } => b"aligned",
+        Pred::SameBlock { .. } => b"same_block",
+        Pred::HeapStart { .. } => b"heap_start",
+        Pred::Terminated { .. } => b"terminated",
+        Pred::Apart { .. } => b"apart",
+        Pred::RoomFor { .. } => b"room_for",
+        Pred::Never { .. } => b"never",
+    }
+}
+
+fn operator_name(op: Over) -> &'static [u8]
+    ensures { result.now ≡ spelling.operator_name op }
 {
     match op {
-        Over::Add => out.add(b"add"),
-        Over::Sub => out.add(b"sub"),
-        Over::Mul => out.add(b"mul"),
-        Over::Div => out.add(b"div"),
-        Over::Rem => out.add(b"rem"),
+        Over::Add => b"add",
+        Over::Sub => b"sub",
+        Over::Mul => b"mul",
+        Over::Div => b"div",
+        Over::Rem => b"rem",
+        Over::Shl => b"shl",
+        Over::Neg => b"neg",
     }
 }
 
@@ -106,43 +208,97 @@ fn add_width(out: &mut Out, bits: u8) -> Result<(), Memory>
     Ok(())
 }
 
-fn add_second(out: &mut Out, names: &[Option<Text>], second: &Option<Place>) -> Result<(), Memory>
-    ensures { OnOk result (out.new ≡ out.old ++ spelling.second_text names.now second.now) }
+fn add_operator(out: &mut Out, view: &View) -> Result<(), Memory>
+    ensures { OnOk result (out.new ≡ out.old ++ spelling.operator_text view.now.operator view.now.width) }
 {
-    match second {
+    match view.operator {
+        None => Ok(()),
+        Some(op) => {
+            out.add(operator_name(op))?;
+            add_width(out, view.width)?;
+            out.add(b",")
+        }
+    }
+}
+
+fn add_first(out: &mut Out, names: &[Option<Text>], first: &Option<Place>) -> Result<(), Memory>
+    ensures { OnOk result (out.new ≡ out.old ++ spelling.first_text names.now first.now) }
+{
+    match first {
+        None => Ok(()),
+        Some(place) => add_place(out, names, place),
+    }
+}
+
+fn add_further(out: &mut Out, names: &[Option<Text>], factor: i64, further: &Option<Place>) -> Result<(), Memory>
+    ensures { OnOk result (out.new ≡ out.old ++ spelling.further_text names.now factor further.now) }
+{
+    match further {
         None => Ok(()),
         Some(place) => {
             out.add(b",")?;
-            add_place(out, names, place)
+            add_scaled(out, names, factor, place)
         }
+    }
+}
+
+fn add_places(out: &mut Out, names: &[Option<Text>], view: &View) -> Result<(), Memory>
+    ensures { OnOk result (out.new ≡ out.old ++ spelling.places_text names.now view.now) }
+{
+    add_first(out, names, &view.first)?;
+    add_further(out, names, view.factor, &view.second)?;
+    add_further(out, names, view.factor, &view.third)
+}
+
+fn add_why(out: &mut Out, why: Why) -> Result<(), Memory>
+    ensures { OnOk result (out.new ≡ out.old ++ spelling.why_text why) }
+{
+    match why {
+        Why::Unread => out.add(b"unread"),
+        Why::End => out.add(b"end"),
+        Why::Extern => out.add(b"extern"),
+    }
+}
+
+/// Adds what stands behind the places.
+fn add_rest(out: &mut Out, names: &[Option<Text>], predicate: &Pred) -> Result<(), Memory>
+    ensures { OnOk result (out.new ≡ out.old ++ spelling.rest_text names.now predicate.now) }
+{
+    match predicate {
+        Pred::RegSet { v } => add_register(out, names, *v),
+        Pred::IntIn { lo, hi, .. } => {
+            out.add(b",")?;
+            out.add_whole(*lo)?;
+            out.add(b",")?;
+            out.add_whole(*hi)
+        }
+        Pred::Aligned { a, .. } => {
+            out.add(b",")?;
+            out.add_whole(i128::from(*a))
+        }
+        Pred::Never { why } => add_why(out, *why),
+        _ => Ok(()),
     }
 }
 
 fn add_predicate(out: &mut Out, names: &[Option<Text>], predicate: &Pred) -> Result<(), Memory>
     ensures { OnOk result (out.new ≡ out.old ++ spelling.predicate_text names.now predicate.now) }
 {
-    match predicate {
-        Pred::Nonzero { x } => {
-            out.add(b"nonzero(")?;
-            add_place(out, names, x)?;
-            out.add(b")")
-        }
-        Pred::NoOver { op, bits, a, b } => {
-            out.add(b"no_over(")?;
-            add_operator(out, *op)?;
-            add_width(out, *bits)?;
-            out.add(b",")?;
-            add_place(out, names, a)?;
-            add_second(out, names, b)?;
-            out.add(b")")
-        }
-    }
+    let view = view_of(predicate);
+    out.add(kind_text(predicate))?;
+    out.add(b"(")?;
+    add_operator(out, &view)?;
+    add_places(out, names, &view)?;
+    add_rest(out, names, predicate)?;
+    out.add(b")")
 }
 
-/// The spelling of a predicate: `nonzero(X)` or `no_over(OP,A,B)`. A register has its name, or is `%k` where `k`
-/// registers before it have none; a parameter is `$i`, a number decimal, a range `2..5`; an offset that isn't 0 follows
-/// with its sign, a range of them as `$1+0..3`; operators of 64 bits are `add64` and so on. `names` has one item for
-/// each register. In time linear in the text, and for a register without a name in the registers before it.
+/// The spelling of a predicate: the kind, and in parentheses its operator, its places and its other numbers, as
+/// `no_over(div,a,b)`. A register has its name, or is `%k` where `k` registers before it have none; a parameter is
+/// `$i`, a number decimal, a range `2..5`; an offset that isn't 0 follows with its sign, a range of them as `$1+0..3`;
+/// operators of 64 bits are `add64` and so on. A factor other than 1 stands before a place as `4*i`, and numbers below
+/// 2^64 in size are multiplied out. `names` has one item for each register. In time linear in the text, and for a
+/// register without a name in the registers before it.
 pub fn spell(alloc: Global, predicate: &Pred, names: &[Option<Text>]) -> Result<Text, Memory>
     ensures { IfOk result (λ text. text ≡ spelling.predicate_text names.now predicate.now) }
 {

@@ -74,6 +74,7 @@ overflow_decided o bits x y frame k l =
 pub predicate_decided : (q : Pred) (frame : Frame) → AreReady frame q → IsDecided (Holds frame q)
 predicate_decided (Nonzero x) frame k = nonzero_decided x frame k
 predicate_decided (NoOver o bits a b) frame k = overflow_decided o bits a b frame k.0 k.1
+predicate_decided _ frame k = absurd k
 
 -- the first that doesn't hold
 pub record Fails (frame : Frame) (list : List Asked) : Type 0 where

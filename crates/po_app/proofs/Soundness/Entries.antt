@@ -52,3 +52,4 @@ pub delegated_holds : (params : ℕ) (q : Pred) (frame : Frame) → HoldArgument
 delegated_holds params (Nonzero x) frame args k h = (ready_number frame x k, λ v c. h.1 v (entry_chooses params x frame v args k c))
 delegated_holds params (NoOver op bits a b) frame args k h =
     (ready_number frame a k.0, second_number frame b k.1, λ v w c d. h.2 v w (entry_chooses params a frame v args k.0 c) (second_chooses params b frame w args k.1 d))
+delegated_holds params _ frame args k h = absurd k

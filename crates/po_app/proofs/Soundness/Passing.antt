@@ -79,6 +79,7 @@ put_in_ready limit frame args (NoOver op bits a (Some b)) h before filled =
     let places = both (is_allowed (length args) a && is_allowed (length args) b) _ (both _ _ fits.0).0 in
     let each = both (is_allowed (length args) a) (is_allowed (length args) b) places.0 in
     (place_put_in_ready limit frame args a each.0 before filled, place_put_in_ready limit frame args b each.1 before filled)
+put_in_ready limit frame args _ h before filled = absurd (cc)
 
 -- a number of a called function's place is one of the place with the arguments put in
 argument_chooses : (frame : Frame) (a : Opnd) (p : Place) (v u : ℤ) → operand_value frame a ≡ Some (number u) → IsMoved p u v → Chooses frame (moved_to_found (Some a) p) v
@@ -132,6 +133,7 @@ put_in_holds args caller callee (NoOver op bits a (Some b)) h passed holds =
       atom_number args caller callee b.atom b each.1 passed,
       λ v w c d. holds.2 v w (place_chooses args caller callee a v each.0 passed c) (place_chooses args caller callee b w each.1 passed d),
     )
+put_in_holds args caller callee _ h passed holds = absurd (cc)
 
 -- a predicate on parameters holds in every frame with the same arguments
 atom_alike : (params : ℕ) (atom : Option Atom) (p : Place) (frame other : Frame) → allowed_from params atom p ≡ true → frame.args ≡ other.args → atom_value frame atom ≡ atom_value other atom
@@ -159,3 +161,4 @@ holds_alike params (NoOver op bits a (Some b)) frame other h same holds =
       number_alike params b frame other each.1 same holds.1,
       λ v w c d. holds.2 v w (place_alike params a frame other v each.0 same c) (place_alike params b frame other w each.1 same d),
     )
+holds_alike params _ frame other h same holds = absurd (cc)

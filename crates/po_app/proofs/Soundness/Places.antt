@@ -63,10 +63,11 @@ abbrev pub SecondReady : Frame → Option Place → Type 0
 SecondReady frame None = Unit {0}
 SecondReady frame (Some p) = IsReady frame p
 
--- the same of all places of a predicate
+-- the same of all places of a predicate of a kind that is served
 abbrev pub AreReady : Frame → Pred → Type 0
 AreReady frame (Nonzero x) = IsReady frame x
 AreReady frame (NoOver op bits a b) = IsReady frame a × SecondReady frame b
+AreReady frame _ = ⊥
 
 pub ready_number : (frame : Frame) (p : Place) → IsReady frame p → HasNumber frame p
 ready_number frame p k = (k.0, k.1)
@@ -96,6 +97,7 @@ pub holds : (q : Pred) (frame : Frame) → AreReady frame q → HoldsForAll q �
 holds (Nonzero x) frame k all = (ready_number frame x k, λ v c. all v (may_be frame x v k c))
 holds (NoOver op bits a b) frame k all =
     (ready_number frame a k.0, second_number frame b k.1, λ v w c d. all v w (may_be frame a v k.0 c) (second_may_be frame b w k.1 d))
+holds _ frame k all = absurd k
 
 -- the operand's value is a number of its place
 pub chooses : (a : Opnd) (frame : Frame) (v : ℤ) → operand_value frame a ≡ Some (number v) → Chooses frame (place a) v

@@ -1,6 +1,6 @@
 use Rattle.std.proofs.Common.{◌∙◌, sym, ap, subst, length}
 use Rattle.std.specs.Prelude.{All}
-use Rattle.po_pred.specs.Order.{places_of}
+use Rattle.po_pred.specs.View.{places_of}
 use Rattle.po_pred.specs.Subst.{IsOpenTo}
 use Rattle.po_app.proofs.Small.{assumable_open, operands_counted}
 use Rattle.po_app.proofs.verdict.supported_by.Goals as goal

@@ -1,7 +1,7 @@
 ghost use Rattle.std.specs.Prelude.{◌≡◌, ◌++◌, [], OnOk};
 ghost use Rattle.std.specs.Fmt.{decimal, signed_decimal};
 
-use po_base::Memory;
+use crate::memory::Memory;
 use std::alloc::Global;
 use std::marker::Model;
 

@@ -1,0 +1,3 @@
+pub mod General
+pub mod Along
+pub mod Passed

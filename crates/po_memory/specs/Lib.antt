@@ -1,0 +1,4 @@
+pub mod Values
+pub mod Blocks
+pub mod Holding
+pub mod Passing
