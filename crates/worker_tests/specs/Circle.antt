@@ -15,8 +15,7 @@ use Rattle.po_core.specs.declared.obl.Verdict.TheVariants.{Open, Closed, Delegat
 
 -- the two things that a function asks by itself, where it asks at all
 abbrev pub own_places : Bool → List (NodeNo × ℕ)
-own_places true = (record { 0 = 0 }, 0) ∷ ((record { 0 = 0 }, 1) ∷ [])
-own_places false = []
+own_places asks = cond asks ((record { 0 = 0 }, 0) ∷ ((record { 0 = 0 }, 1) ∷ [])) []
 
 -- what passes the circle until the sixth function, where it is closed, or the last, where it is open
 abbrev pub ending : Bool → Bool → Verdict ℕ ℕ
@@ -46,20 +45,20 @@ caller_there : (f : ℕ) (s : FunNo × NodeNo) → Has ((record { 0 = (f + 1) % 
 caller_there f s (inl q) = rw (← q) (omega arith)
 caller_there f s (inr h) = absurd h
 
-own_passed : (b : Bool) (q : ℕ) → cond b (Delegated 1) (Delegated 2) ≡ Delegated {P = ℕ} {N = ℕ} q → Has (1 ∷ (2 ∷ [])) q
+own_passed : (b : Bool) (q : ℕ) → ◌≡◌ {A = Verdict ℕ ℕ} (cond b (Delegated 1) (Delegated 2)) (Delegated q) → Has (1 ∷ (2 ∷ [])) q
 own_passed true q h = inl (cc)
 own_passed false q h = inr (inl (cc))
 
-ending_passed : (last sixth : Bool) (q : ℕ) → ending last sixth ≡ Delegated q → Has (1 ∷ (2 ∷ [])) q
+ending_passed : (last sixth : Bool) (q : ℕ) → ◌≡◌ {A = Verdict ℕ ℕ} (ending last sixth) (Delegated q) → Has (1 ∷ (2 ∷ [])) q
 ending_passed true sixth q h = absurd (cc)
 ending_passed false true q h = absurd (cc)
 ending_passed false false q h = inr (inl (cc))
 
-support_passed : (b last sixth : Bool) (q : ℕ) → cond b (Delegated 1) (ending last sixth) ≡ Delegated q → Has (1 ∷ (2 ∷ [])) q
+support_passed : (b last sixth : Bool) (q : ℕ) → ◌≡◌ {A = Verdict ℕ ℕ} (cond b (Delegated 1) (ending last sixth)) (Delegated q) → Has (1 ∷ (2 ∷ [])) q
 support_passed true last sixth q h = inl (cc)
 support_passed false last sixth q h = ending_passed last sixth q h
 
-passed : (fun : ℕ) (c : Cause ℕ) (q : ℕ) → verdict_by fun c ≡ Delegated q → Has (1 ∷ (2 ∷ [])) q
+passed : (fun : ℕ) (c : Cause ℕ) (q : ℕ) → ◌≡◌ {A = Verdict ℕ ℕ} (verdict_by fun c) (Delegated q) → Has (1 ∷ (2 ∷ [])) q
 passed fun (Primary place) q h = own_passed (nat_eq place 0) q h
 passed fun (Support p) q h = support_passed (nat_eq p 1) (nat_eq fun 11) (nat_eq fun 5) q h
 

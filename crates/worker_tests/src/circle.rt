@@ -18,6 +18,28 @@ pub(crate) struct Circle {
     pub(crate) stop: AtomicU64,
 }
 
+impl Circle {
+    ghost use Rattle.worker_tests.specs.Circle.{circle};
+
+    /// A circle in which so many functions ask.
+    pub(crate) fn new(asking: u32) -> Circle {
+        Circle {
+            asking,
+            stop: AtomicU64::new(0),
+        }
+    }
+
+    /// The circle in which each function asks.
+    pub(crate) fn whole() -> Circle
+        ensures { circle result.asking ≡ circle 12 }
+    {
+        Circle {
+            asking: 12,
+            stop: AtomicU64::new(0),
+        }
+    }
+}
+
 /// The name of the book of a circle in which each function asks.
 pub(crate) struct OfCircle;
 
@@ -73,16 +95,6 @@ impl Rulebook for Circle {
     }
 
     ghost lawful = { λ c. circle_lawful c.asking };
-}
-
-/// A circle in which so many functions ask.
-pub(crate) fn circle(asking: u32) -> Circle
-    ensures { result.asking ≡ asking }
-{
-    Circle {
-        asking,
-        stop: AtomicU64::new(0),
-    }
 }
 
 /// The list of these items.

@@ -1,4 +1,4 @@
-use crate::circle::{Circle, OfCircle, circle};
+use crate::circle::{Circle, OfCircle};
 use crate::gates::{Meeting, Stop, Thief};
 use po_base::{FileNo, FunNo, Memory, NodeNo};
 use po_core::{Cause, Event, Journal, Obl, Report, Verdict};
@@ -21,7 +21,7 @@ struct Told {
 }
 
 /// What a journal tells.
-fn told(journal: &Journal<u8, u8>) -> Told {
+fn tell(journal: &Journal<u8, u8>) -> Told {
     let mut facts = Told {
         settled: 0,
         put_back: 0,
@@ -83,17 +83,17 @@ fn ticket_of(next: Next<Circle, OfCircle>) -> Option<Ticket<Circle, OfCircle>> {
 #[test]
 fn each_number_of_workers_finds_the_same(rt: HostRuntime) -> Result<(), Fail> {
     for (asking, lines, assumptions) in [(1_u32, 19_usize, 17_usize), (12, 48, 24)] {
-        let book = circle(asking);
+        let book = Circle::new(asking);
         let (alone, journal) = solve_book_alone(rt.alloc(), &book)?;
         assert_eq!(rt;
             (alone.lines.len(), alone.assumptions.len()),
             (lines, assumptions)
         );
-        assert!(rt; told(&journal).alone);
+        assert!(rt; tell(&journal).alone);
         for workers in [1_u8, 2, 64] {
             let (report, journal) = solve(&rt, rt.alloc(), &book, workers, &NoGate)?;
             assert!(rt; are_same(&report, &alone));
-            assert_eq!(rt; told(&journal).settled as usize, lines);
+            assert_eq!(rt; tell(&journal).settled as usize, lines);
         }
     }
     Ok(())
@@ -103,11 +103,11 @@ fn each_number_of_workers_finds_the_same(rt: HostRuntime) -> Result<(), Fail> {
 // that does all in one thread holds the first for all its turns, and no other comes.
 #[test]
 fn two_workers_hold_files_at_once(rt: HostRuntime) -> Result<(), Fail> {
-    let book = circle(12);
+    let book = Circle::whole();
     let gate = Meeting::new(Moment::Taken, 0);
     let (report, journal) = solve(&rt, rt.alloc(), &book, 2, &gate)?;
     assert_eq!(rt; gate.met.load(Ordering::SeqCst), 1);
-    assert!(rt; told(&journal).together);
+    assert!(rt; tell(&journal).together);
     assert_eq!(rt; report.lines.len(), 48);
     Ok(())
 }
@@ -116,11 +116,11 @@ fn two_workers_hold_files_at_once(rt: HostRuntime) -> Result<(), Fail> {
 // caller's file. The first is held before it gives its file free: by the bell alone the second comes before that.
 #[test]
 fn the_bell_is_rung_for_what_was_posted(rt: HostRuntime) -> Result<(), Fail> {
-    let book = circle(1);
+    let book = Circle::new(1);
     let gate = Meeting::new(Moment::Giving, 10_000);
     let (report, journal) = solve(&rt, rt.alloc(), &book, 2, &gate)?;
     assert_eq!(rt; gate.met.load(Ordering::SeqCst), 1);
-    assert!(rt; told(&journal).together);
+    assert!(rt; tell(&journal).together);
     assert_eq!(rt; report.lines.len(), 19);
     Ok(())
 }
@@ -128,7 +128,7 @@ fn the_bell_is_rung_for_what_was_posted(rt: HostRuntime) -> Result<(), Fail> {
 // One worker ends at its first take, whose file it puts back. The others do its work, or the caller, where it was the only one.
 #[test]
 fn a_worker_that_stops_changes_no_report(rt: HostRuntime) -> Result<(), Fail> {
-    let book = circle(12);
+    let book = Circle::whole();
     let (alone, _journal) = solve_book_alone(rt.alloc(), &book)?;
     for workers in [1_u8, 2, 64] {
         let gate = Stop {
@@ -137,7 +137,7 @@ fn a_worker_that_stops_changes_no_report(rt: HostRuntime) -> Result<(), Fail> {
         };
         let (report, journal) = solve(&rt, rt.alloc(), &book, workers, &gate)?;
         assert!(rt; are_same(&report, &alone));
-        let facts = told(&journal);
+        let facts = tell(&journal);
         assert_eq!(rt; (facts.settled, facts.put_back), (48, 1));
         assert!(rt; workers > 1 || facts.alone);
     }
@@ -148,12 +148,14 @@ fn a_worker_that_stops_changes_no_report(rt: HostRuntime) -> Result<(), Fail> {
 // known at the start are untaken. Then one worker finds the report.
 #[test]
 fn a_ticket_is_stale_once_its_file_is_put_back(rt: HostRuntime) -> Result<(), Fail> {
-    let book = circle(12);
+    let book = Circle::whole();
     let mut ledger: Ledger<'_, Circle, OfCircle> = Ledger::new(rt.alloc(), &book)?;
     let ticket = ticket_of(ledger.take(rt.alloc(), 1)?).expect(&rt, "a ticket");
     assert_eq!(rt; (ticket.worker(), ticket.len()), (1, 4));
-    assert!(rt; ledger.fits(&ticket) && ledger.held(ticket.file()));
-    ledger.put_back(ticket.file());
+    assert!(rt; ledger.fits(&ticket));
+    let file = ticket.file();
+    assert!(rt; ledger.held(file));
+    ledger.put_back(file);
     assert!(rt; !ledger.fits(&ticket));
     let left = match ledger.report(rt.alloc()) {
         Err(ReportFail::NotQuiet { held, untaken }) => Some((held, untaken)),
@@ -201,12 +203,12 @@ fn work_robbed<T: Wait>(
 #[test]
 fn a_stale_ticket_is_dropped(rt: HostRuntime) -> Result<(), Fail> {
     for when in [Moment::Taken, Moment::Giving] {
-        let book = circle(12);
+        let book = Circle::whole();
         let shared: Shared<'_, Circle, OfCircle> = Shared::new(Ledger::new(rt.alloc(), &book)?);
         work_robbed(&rt, rt.alloc(), &shared, when)?;
         let ledger = shared.into_ledger();
         assert!(rt; ledger.quiet());
-        let facts = told(&ledger.close());
+        let facts = tell(&ledger.close());
         assert_eq!(rt; (facts.settled, facts.put_back), (48, 1));
     }
     Ok(())
@@ -215,7 +217,7 @@ fn a_stale_ticket_is_dropped(rt: HostRuntime) -> Result<(), Fail> {
 // Where memory is wanting (`rt try --test --fail-alloc N` has it so at the place N), a worker leaves no file held.
 #[test]
 fn want_of_memory_leaves_no_file_held(rt: HostRuntime) -> Result<(), Fail> {
-    let book = circle(12);
+    let book = Circle::whole();
     let shared: Shared<'_, Circle, OfCircle> = Shared::new(Ledger::new(rt.alloc(), &book)?);
     let ended = work(&rt, rt.alloc(), &shared, 1, &NoGate);
     let ledger = shared.into_ledger();
