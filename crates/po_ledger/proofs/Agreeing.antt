@@ -14,9 +14,6 @@ use Rattle.po_ledger.specs.View.{LedgerView, TicketView, Fits, items_of}
 use Rattle.po_ledger.proofs.Lists.{front_cases}
 
 module _ {P N : Type 0} (marks : List (Obl P × Mark P N)) where
-  pub verdict_more : (i : ℕ) (e : Obl P × Mark P N) (o : Obl P) → i < length marks → e ≡ get_or marks i e → (HasVerdict (take i marks) o → ⊥) → (((v : Verdict P N) × (e ≡ (o, Settled v))) → ⊥) → HasVerdict (take (i + 1) marks) o → ⊥
-  verdict_more i e o l q none here h = elim (front_cases marks i e (o, Settled h.0) l q h.1) [ inl k ↦ none (h.0, k) | inr k ↦ here (h.0, k) ]
-
   pub agree_more : (own : List (Obl P × Bool)) (i : ℕ) (e : Obl P × Bool) → i < length own → e ≡ get_or own i e → AgreesOn marks (take i own) → (IsTrue e.1 ↔ HasVerdict marks e.0) → AgreesOn marks (take (i + 1) own)
   agree_more own i e l q before here o x h = elim (front_cases own i e (o, x) l q h) [
     | inl k ↦ before o x k

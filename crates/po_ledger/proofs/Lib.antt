@@ -11,11 +11,12 @@ pub mod Starts
 pub mod Posted
 pub mod Tables
 pub mod Agreeing
-pub mod Draining
-pub mod Drained
+pub mod General
+pub mod Hands
 mod Counted
 mod Lined
 mod Ascending
 mod Reported
 mod Indexed
 mod Located
+mod Judged

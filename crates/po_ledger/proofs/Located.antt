@@ -55,7 +55,8 @@ module _ {P N : Type 0} where
   key_at : (items : List (Obl P × Mark P N)) (at : ℕ) (o : Obl P) → IsMarkAt items at o → HasKey items o
   key_at items at o h = (h.0, contains items (o, h.0) (got_in items at (o, h.0) h.1))
 
-  found_place : (by : P → P → Ordering) (items now : List (Obl P × Mark P N)) (places : BTreeMap (Obl P) ℕ) (o : Obl P) (found : Option ℕ) → items ≡ now → ArePlaced items (get (obl_cmp by) places) → (cmp : Obl P → Obl P → Ordering) → FindsPlace cmp places o found → Alike by cmp → (h : HasKey now o) → (at : ℕ) × (slice_get items at ≡ Some (o, h.0)) × (found ≡ Some at)
+  -- a known obligation is found at its place
+  pub found_place : (by : P → P → Ordering) (items now : List (Obl P × Mark P N)) (places : BTreeMap (Obl P) ℕ) (o : Obl P) (found : Option ℕ) → items ≡ now → ArePlaced items (get (obl_cmp by) places) → (cmp : Obl P → Obl P → Ordering) → FindsPlace cmp places o found → Alike by cmp → (h : HasKey now o) → (at : ℕ) × (slice_get items at ≡ Some (o, h.0)) × (found ≡ Some at)
   found_place by items now places o found same placed cmp finds answers h =
       let x = place_in items (o, h.0) (subst (λ (z : List (Obl P × Mark P N)). Contains z (o, h.0)) (sym same) h.1) in
       (x.0, x.1, finds.is ∙ (get_alike by cmp answers places o ∙ placed x.0 o h.0 x.1))

@@ -4,5 +4,6 @@ pub mod Empty
 pub mod Parts
 pub mod Answers
 pub mod Sample
-pub mod Alone
+pub mod Hands
 pub mod Indexed
+pub mod Verdicts

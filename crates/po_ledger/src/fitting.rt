@@ -1,13 +1,11 @@
 ghost use Rattle.std.specs.Prelude.{◌≡◌, ◌↔◌, Some, slice_get, IsTrue, IfSome, IfNone};
-ghost use Rattle.std.specs.List.{Contains};
-ghost use Rattle.po_core.specs.declared.event.Mark.TheVariants.{Settled};
-ghost use Rattle.po_core.specs.declared.obl.Verdict.{Verdict};
 ghost use Rattle.po_ledger.specs.Parts.{HandAt, HasVerdict, AgreesOn, IsHandOf};
 ghost use Rattle.po_ledger.specs.View.{items_of};
 
-use crate::marks::{is_same, is_settled};
+use crate::known::{Known, has_verdict};
+use crate::marks::is_same;
 use po_base::FileNo;
-use po_core::{Hand, Mark, Obl, Rulebook};
+use po_core::{Hand, Obl, Rulebook};
 
 /// The hand that holds a file, where it is held, in constant time.
 pub(crate) fn hand_at<P: Copy>(hands: &[Option<Hand<P>>], file: FileNo) -> Option<&Hand<P>>
@@ -20,16 +18,16 @@ pub(crate) fn hand_at<P: Copy>(hands: &[Option<Hand<P>>], file: FileNo) -> Optio
     }
 }
 
-/// Whether a hand that the ledger keeps is that of a worker's ticket. Time: the number of the ticket's obligations
-/// times that of known obligations.
+/// Whether a hand that the ledger keeps is that of a worker's ticket. Time: the number of the ticket's obligations times the
+/// logarithm of that of known obligations.
 pub(crate) fn is_hand_of<R: Rulebook>(
     book: &R,
-    marks: &[(Obl<R::Pred>, Mark<R::Pred, R::Rule>)],
+    marks: &Known<R::Pred, R::Rule>,
     hand: &Hand<R::Pred>,
     worker: u8,
     own: &[(Obl<R::Pred>, bool)],
 ) -> bool
-    ensures { IsTrue result ↔ IsHandOf marks.now hand.now worker own.now }
+    ensures { IsTrue result ↔ IsHandOf marks.now.items hand.now worker own.now }
 {
     if hand.worker == worker {
         if are_items(book, hand.items.as_slice(), own) {
@@ -64,10 +62,10 @@ fn is_item<R: Rulebook>(book: &R, item: &Obl<R::Pred>, entry: &(Obl<R::Pred>, bo
 /// Whether each settled item of a hand has a verdict, and each other has none.
 fn agree_on<R: Rulebook>(
     book: &R,
-    marks: &[(Obl<R::Pred>, Mark<R::Pred, R::Rule>)],
+    marks: &Known<R::Pred, R::Rule>,
     own: &[(Obl<R::Pred>, bool)],
 ) -> bool
-    ensures { IsTrue result ↔ AgreesOn marks.now own.now }
+    ensures { IsTrue result ↔ AgreesOn marks.now.items own.now }
 {
     for at in 0..own.len() {
         if !agrees(book, marks, &own[at]) {
@@ -80,40 +78,10 @@ fn agree_on<R: Rulebook>(
 /// Whether an item is settled just where it has a verdict.
 fn agrees<R: Rulebook>(
     book: &R,
-    marks: &[(Obl<R::Pred>, Mark<R::Pred, R::Rule>)],
+    marks: &Known<R::Pred, R::Rule>,
     entry: &(Obl<R::Pred>, bool),
 ) -> bool
-    ensures { IsTrue result ↔ (IsTrue entry.now.1 ↔ HasVerdict marks.now entry.now.0) }
+    ensures { IsTrue result ↔ (IsTrue entry.now.1 ↔ HasVerdict marks.now.items entry.now.0) }
 {
     entry.1 == has_verdict(book, marks, &entry.0)
-}
-
-/// Whether an obligation has a verdict. Time: the number of known obligations.
-fn has_verdict<R: Rulebook>(
-    book: &R,
-    marks: &[(Obl<R::Pred>, Mark<R::Pred, R::Rule>)],
-    o: &Obl<R::Pred>,
-) -> bool
-    ensures { IsTrue result ↔ HasVerdict marks.now o.now }
-{
-    for at in 0..marks.len() {
-        if is_verdict_of(book, &marks[at], o) {
-            return true;
-        }
-    }
-    false
-}
-
-/// Whether a mark is an obligation's verdict.
-fn is_verdict_of<R: Rulebook>(
-    book: &R,
-    entry: &(Obl<R::Pred>, Mark<R::Pred, R::Rule>),
-    o: &Obl<R::Pred>,
-) -> bool
-    ensures { IsTrue result ↔ ((v : Verdict R.Pred R.Rule) × (entry.now ≡ (o.now, Settled v))) }
-{
-    if is_settled(&entry.1) {
-        return is_same(book, &entry.0, o);
-    }
-    false
 }

@@ -4,10 +4,10 @@ ghost use Rattle.po_core.specs.declared.event.Mark.{Mark};
 ghost use Rattle.po_core.specs.declared.event.Mark.TheVariants.{Untaken};
 ghost use Rattle.po_core.specs.declared.obl.Obl.{Obl};
 ghost use Rattle.po_ledger.specs.Indexed.{AreLeft};
-ghost use Rattle.po_ledger.specs.Parts.{HasKey, AddsUntaken, AddsEach, IsRemarked, primaries_below, primaries_of, supports_of};
+ghost use Rattle.po_ledger.specs.Parts.{HasKey, HasVerdict, AddsUntaken, AddsEach, IsRemarked, primaries_below, primaries_of, supports_of};
 
 use crate::marks::{
-    Remark, change_slice, is_mark_at, lower, primary_at, settle_at, skip_settled, support_at,
+    Remark, change_slice, is_mark_at, is_verdict_at, lower, primary_at, settle_at, skip_settled, support_at,
 };
 use crate::places::{place_of, put_place};
 use po_base::{FunNo, Memory, NodeNo};
@@ -83,6 +83,20 @@ fn is_known<R: Rulebook>(book: &R, marks: &Known<R::Pred, R::Rule>, o: &Obl<R::P
 {
     match place_of(&marks.places, o) {
         Some(at) => is_mark_at(book, marks.pairs.as_slice(), at, o),
+        None => false,
+    }
+}
+
+/// Whether an obligation has a verdict. Time: the logarithm of the number of known obligations.
+pub(crate) fn has_verdict<R: Rulebook>(
+    book: &R,
+    marks: &Known<R::Pred, R::Rule>,
+    o: &Obl<R::Pred>,
+) -> bool
+    ensures { IsTrue result ↔ HasVerdict marks.now.items o.now }
+{
+    match place_of(&marks.places, o) {
+        Some(at) => is_verdict_at(book, marks.pairs.as_slice(), at, o),
         None => false,
     }
 }

@@ -1,6 +1,6 @@
 ghost use Rattle.std.specs.Prelude.{◌≡◌, ◌↔◌, ◌<◌, [], ◌∷◌, ℕ, Bool, true, false, length, slice_set, IsTrue, IfOk, IfSome, IfNone, OnOk, OnErr, Some, slice_get};
 ghost use Rattle.std.specs.List.{Contains};
-ghost use Rattle.po_core.specs.Core.{IsHeld, IsQuiet, IsLegal, CanTake, IsAssumed};
+ghost use Rattle.po_core.specs.Core.{IsHeld, IsInHand, IsKnown, IsQuiet, IsLegal, CanTake, IsAssumed};
 ghost use Rattle.po_base.specs.declared.numbers.FileNo.{FileNo};
 ghost use Rattle.po_core.specs.declared.event.Event.TheVariants.{Take, Post, Settle, Give, PutBack, Ask};
 ghost use Rattle.po_core.specs.declared.obl.Obl.{Obl};
@@ -98,6 +98,15 @@ impl<'r, R: Rulebook, J: Naming<R::Pred, R::Rule, R::Table>> Ledger<'r, R, J> {
         let _book = self.book;
     }
 
+    /// What every ledger keeps of its hands: a file that is held is one of the rulebook's, and each obligation of a hand is
+    /// known. It does nothing.
+    pub fn keeps_its_hands(&self)
+        ensures held_there { (file : FileNo) → IsHeld self.now.state file → file.0 < J.book.files }
+        ensures items_known { (file : FileNo) (o : Obl R.Pred) → IsInHand self.now.state file o → IsKnown self.now.state o }
+    {
+        legal_lists_are_orderly(self.book);
+    }
+
     /// Whether a file is held, in constant time.
     pub fn held(&self, file: FileNo) -> bool
         ensures { IsTrue result ↔ IsHeld self.now.state file }
@@ -106,13 +115,13 @@ impl<'r, R: Rulebook, J: Naming<R::Pred, R::Rule, R::Table>> Ledger<'r, R, J> {
     }
 
     /// Whether a ticket is still good: its worker holds its file in this ledger, and the ledger's hand, with what is
-    /// settled, is the ticket's. It takes no memory. Time: the number of the ticket's obligations times that of known
-    /// obligations.
+    /// settled, is the ticket's. It takes no memory. Time: the number of the ticket's obligations times the logarithm of
+    /// that of known obligations.
     pub fn fits(&self, t: &Ticket<R, J>) -> bool
         ensures { IsTrue result ↔ Fits self.now.state t.now }
     {
         match hand_at(self.hands.as_slice(), t.file()) {
-            Some(hand) => is_hand_of(self.book, self.marks.as_slice(), hand, t.worker(), t.hand()),
+            Some(hand) => is_hand_of(self.book, &self.marks, hand, t.worker(), t.hand()),
             None => false,
         }
     }

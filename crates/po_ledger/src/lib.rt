@@ -4,7 +4,6 @@
 #![tactic(auto)]
 
 mod assumed;
-mod drain;
 mod fitting;
 mod known;
 mod ledger;
@@ -17,12 +16,13 @@ mod places;
 mod report;
 #[cfg(test)]
 mod sample;
+mod settling;
 #[cfg(test)]
 mod tests;
 mod ticket;
 
-pub use drain::solve_alone;
 pub use ledger::Ledger;
 pub use naming::Naming;
 pub use next::{Next, ReportFail};
+pub use settling::settle_hand;
 pub use ticket::Ticket;

@@ -4,6 +4,7 @@ ghost use Rattle.po_core.specs.declared.event.Mark.TheVariants.{Settled};
 ghost use Rattle.po_core.specs.declared.obl.Obl.{Obl};
 ghost use Rattle.po_core.specs.declared.obl.Verdict.{Verdict};
 ghost use Rattle.po_ledger.specs.Indexed.{AreSettledTo};
+ghost use Rattle.po_ledger.specs.Verdicts.{IsVerdictAt};
 ghost use Rattle.po_ledger.specs.Parts.{HasKey, IsMarkAfter, IsMarkAt, IsMeant, IsRemarked, old_mark, new_mark};
 
 use po_base::{FileNo, FunNo, NodeNo};
@@ -156,6 +157,22 @@ pub(crate) fn is_mark_at<R: Rulebook>(
     if at < marks.len() {
         let entry = marks[at];
         return is_same(book, &entry.0, o);
+    }
+    false
+}
+
+/// Whether the mark at a place is a verdict of an obligation.
+pub(crate) fn is_verdict_at<R: Rulebook>(
+    book: &R,
+    marks: &[(Obl<R::Pred>, Mark<R::Pred, R::Rule>)],
+    at: usize,
+    o: &Obl<R::Pred>,
+) -> bool
+    ensures { IsTrue result ↔ IsVerdictAt marks.now at o.now }
+{
+    if is_mark_at(book, marks, at, o) {
+        let entry = marks[at];
+        return is_settled(&entry.1);
     }
     false
 }

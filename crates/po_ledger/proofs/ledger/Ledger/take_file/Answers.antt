@@ -1,6 +1,6 @@
 use Rattle.std.proofs.Common.{◌∙◌, ◌++◌, ◌∷◌, [], ap, refl, arith, map, false}
 use Rattle.po_core.specs.declared.event.Event.TheVariants.{Take}
-use Rattle.po_ledger.proofs.Drained.{on_err}
+use Rattle.po_ledger.proofs.General.{on_err}
 use Rattle.po_ledger.proofs.Kept.{known_there}
 use Rattle.po_ledger.proofs.Located.{takes_left}
 use Rattle.po_ledger.proofs.Posted.{same_view}

@@ -1,0 +1,4 @@
+pub mod General
+pub mod Held
+pub mod Handed
+pub mod Draining
