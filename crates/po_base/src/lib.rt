@@ -10,6 +10,7 @@ mod operand;
 mod operators;
 mod ord_list;
 mod roomy;
+mod shared_list;
 mod spot;
 #[cfg(test)]
 mod tests;
@@ -24,6 +25,7 @@ pub use operand::Opnd;
 pub use operators::{Op, UnOp};
 pub use ord_list::OrdList;
 pub use roomy::Roomy;
+pub use shared_list::SharedList;
 pub use spot::Spot;
 pub use text::Text;
 pub use token::{Token, TokenKind, Tokens};
