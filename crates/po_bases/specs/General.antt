@@ -1,7 +1,8 @@
 -- Orders with a join: of tests, of numbers, of pairs, with a least or a greatest value put to them, and of lists of one length.
-use Rattle.std.specs.Prelude.{◌≡◌, ℕ, suc, ◌≤◌, Bool, true, false, ◌&&◌, ◌||◌, min, List, [], ◌∷◌, length, Option, Some, None, IsTrue}
-use Rattle.std.specs.List.{AllByRecursion}
-use Rattle.std.proofs.Common.{refl, sym, ap, ◌∙◌, subst, arith}
+use Rattle.std.specs.Prelude.{◌≡◌, ℕ, suc, ◌≤◌, Bool, true, false, ◌&&◌, ◌||◌, min, List, [], ◌∷◌, length, Option, Some, None, IsTrue, ◌↔◌, cond, nat_le}
+use Rattle.std.specs.List.{AllByRecursion, AllZip}
+use Rattle.std.proofs.Common.{refl, sym, ap, ◌∙◌, subst, arith, le_trans}
+use borrow.Author.Tests.{leb-true, leb-false}
 
 -- Below is an order of the proper values, and join gives the least upper bound of two of them
 pub record IsJoin {S : Type 0} (Proper : S → Type 0) (Below : S → S → Type 0) (join : S → S → S) : Type 0 where
@@ -31,7 +32,51 @@ module _ {S : Type 0} {Proper : S → Type 0} {Below : S → S → Type 0} {join
       (law.through x v (join v w) px pv top h (law.left v w pv pw))
       (law.through y w (join v w) py pw top k (law.right v w pv pw))
 
+  -- of some of the values, which joins do not leave
+  pub among : (Q : S → Type 0) → ((x : S) → Q x → Proper x) → ((x y : S) → Q x → Q y → Q (join x y)) → IsJoin Q Below join
+  among Q proper stays = record {
+    stays = stays;
+    itself = λ x qx. law.itself x (proper x qx);
+    through = λ x y z qx qy qz. law.through x y z (proper x qx) (proper y qy) (proper z qz);
+    apart = λ x y qx qy. law.apart x y (proper x qx) (proper y qy);
+    left = λ x y qx qy. law.left x y (proper x qx) (proper y qy);
+    right = λ x y qx qy. law.right x y (proper x qx) (proper y qy);
+    least = λ x y z qx qy qz. law.least x y z (proper x qx) (proper y qy) (proper z qz);
+  }
+
+  -- the same values in other words
+  pub renamed : (Q : S → Type 0) → ((x : S) → Proper x ↔ Q x) → IsJoin Q Below join
+  renamed Q same = among Q (λ x qx. (same x).1 qx) (λ x y qx qy. (same (join x y)).0 (law.stays x y ((same x).1 qx) ((same y).1 qy)))
+
+  -- the same order in other words
+  pub reordered : (Order : S → S → Type 0) → ((x y : S) → Proper x → Proper y → Below x y ↔ Order x y) → IsJoin Proper Order join
+  reordered Order same = record {
+    stays = law.stays;
+    itself = λ x px. (same x x px px).0 (law.itself x px);
+    through = λ x y z px py pz h k. (same x z px pz).0 (law.through x y z px py pz ((same x y px py).1 h) ((same y z py pz).1 k));
+    apart = λ x y px py h k. law.apart x y px py ((same x y px py).1 h) ((same y x py px).1 k);
+    left = λ x y px py. (same x (join x y) px (law.stays x y px py)).0 (law.left x y px py);
+    right = λ x y px py. (same y (join x y) py (law.stays x y px py)).0 (law.right x y px py);
+    least = λ x y z px py pz h k. (same (join x y) z (law.stays x y px py) pz).0 (law.least x y z px py pz ((same x z px pz).1 h) ((same y z py pz).1 k));
+  }
+
+  -- the same join in other words
+  pub rejoined : (other : S → S → S) → ((x y : S) → join x y ≡ other x y) → IsJoin Proper Below other
+  rejoined other same = subst (IsJoin Proper Below) (λ i x y. same x y i) law
+
 -- ---- tests and numbers
+
+-- one value alone
+pub alone : {S : Type 0} (it : S) → IsJoin (λ x. x ≡ it) (λ x y. Unit {0}) (λ x y. x)
+alone it = record {
+  stays = λ x y px py. px;
+  itself = λ x px. tt;
+  through = λ x y z px py pz h k. tt;
+  apart = λ x y px py h k. px ∙ sym py;
+  left = λ x y px py. tt;
+  right = λ x y px py. tt;
+  least = λ x y z px py pz h k. tt;
+}
 
 -- a fact that is surely known: to know it is the lesser
 abbrev pub Surely : Bool → Bool → Type 0
@@ -265,13 +310,35 @@ module _ {S : Type 0} {P : S → Type 0} {B : S → S → Type 0} {j : S → S �
     least (Some x) None (Some z) px py pz h k = absurd k
     least (Some x) (Some y) (Some z) px py pz h k = f.least x y z px py pz h k
 
--- ---- lists of one length, place by place
+-- of limited size: a join past the limit is None
+pub limited :
+  {S : Type 0} {P : S → Type 0} {B : S → S → Type 0} {j : S → S → S} (f : IsJoin P B j) (size : S → ℕ) (n : ℕ) →
+  ((x y : S) → P x → P y → B x y → size x ≤ size y) →
+  IsPartialJoin (λ x. P x × (size x ≤ n)) B (λ x y. cond (nat_le (size (j x y)) n) (Some (j x y)) None)
+limited {S} {P} {B} {j} f size n grows = record {
+  stays = λ x y px py. stays (nat_le (size (j x y)) n) (j x y) refl (f.stays x y px.0 py.0);
+  itself = λ x px. f.itself x px.0;
+  through = λ x y z px py pz. f.through x y z px.0 py.0 pz.0;
+  apart = λ x y px py. f.apart x y px.0 py.0;
+  left = λ x y px py. above (nat_le (size (j x y)) n) x (j x y) (f.left x y px.0 py.0);
+  right = λ x y px py. above (nat_le (size (j x y)) n) y (j x y) (f.right x y px.0 py.0);
+  least = λ x y z px py pz h k.
+      let lesser = f.least x y z px.0 py.0 pz.0 h k in
+      least (nat_le (size (j x y)) n) (j x y) z refl (le_trans (grows (j x y) z (f.stays x y px.0 py.0) pz.0 lesser) pz.1) lesser;
+} where
+  stays : (b : Bool) (z : S) → nat_le (size z) n ≡ b → P z → IfThere (λ x. P x × (size x ≤ n)) (cond b (Some z) None)
+  stays true z h pz = (pz, leb-true (size z) n h)
+  stays false z h pz = tt
 
-abbrev pub EachBelow : {S : Type 0} → (S → S → Type 0) → List S → List S → Type 0
-EachBelow B [] [] = Unit {0}
-EachBelow B [] (y ∷ ys) = ⊥
-EachBelow B (x ∷ xs) [] = ⊥
-EachBelow B (x ∷ xs) (y ∷ ys) = B x y × EachBelow B xs ys
+  above : (b : Bool) (x z : S) → B x z → BelowNone B (Some x) (cond b (Some z) None)
+  above true x z h = h
+  above false x z h = tt
+
+  least : (b : Bool) (w z : S) → nat_le (size w) n ≡ b → size w ≤ n → B w z → BelowNone B (cond b (Some w) None) (Some z)
+  least true w z h small k = k
+  least false w z h small k = absurd (omega (arith, leb-false (size w) n h))
+
+-- ---- lists of one length, place by place
 
 abbrev pub each_join : {S : Type 0} → (S → S → S) → List S → List S → List S
 each_join j [] ys = []
@@ -293,18 +360,18 @@ module _ {S : Type 0} {P : S → Type 0} {B : S → S → Type 0} {j : S → S �
   each_length (x ∷ xs) [] h = absurd (omega arith)
   each_length (x ∷ xs) (y ∷ ys) h = ap suc (each_length xs ys (omega arith))
 
-  each_itself : (xs : List S) → AllByRecursion P xs → EachBelow B xs xs
+  each_itself : (xs : List S) → AllByRecursion P xs → AllZip B xs xs
   each_itself [] px = tt
   each_itself (x ∷ xs) px = (f.itself x px.0, each_itself xs px.1)
 
-  each_through : (xs ys zs : List S) → AllByRecursion P xs → AllByRecursion P ys → AllByRecursion P zs → EachBelow B xs ys → EachBelow B ys zs → EachBelow B xs zs
+  each_through : (xs ys zs : List S) → AllByRecursion P xs → AllByRecursion P ys → AllByRecursion P zs → AllZip B xs ys → AllZip B ys zs → AllZip B xs zs
   each_through [] [] zs px py pz h k = k
   each_through [] (y ∷ ys) zs px py pz h k = absurd h
   each_through (x ∷ xs) [] zs px py pz h k = absurd h
   each_through (x ∷ xs) (y ∷ ys) [] px py pz h k = absurd k
   each_through (x ∷ xs) (y ∷ ys) (z ∷ zs) px py pz h k = (f.through x y z px.0 py.0 pz.0 h.0 k.0, each_through xs ys zs px.1 py.1 pz.1 h.1 k.1)
 
-  each_apart : (xs ys : List S) → AllByRecursion P xs → AllByRecursion P ys → EachBelow B xs ys → EachBelow B ys xs → xs ≡ ys
+  each_apart : (xs ys : List S) → AllByRecursion P xs → AllByRecursion P ys → AllZip B xs ys → AllZip B ys xs → xs ≡ ys
   each_apart [] [] px py h k = refl
   each_apart [] (y ∷ ys) px py h k = absurd h
   each_apart (x ∷ xs) [] px py h k = absurd h
@@ -313,25 +380,25 @@ module _ {S : Type 0} {P : S → Type 0} {B : S → S → Type 0} {j : S → S �
       let rest = each_apart xs ys px.1 py.1 h.1 k.1 in
       λ i. first i ∷ rest i
 
-  each_left : (xs ys : List S) → AllByRecursion P xs → AllByRecursion P ys → length xs ≡ length ys → EachBelow B xs (each_join j xs ys)
+  each_left : (xs ys : List S) → AllByRecursion P xs → AllByRecursion P ys → length xs ≡ length ys → AllZip B xs (each_join j xs ys)
   each_left [] ys px py h = tt
   each_left (x ∷ xs) [] px py h = absurd (omega arith)
   each_left (x ∷ xs) (y ∷ ys) px py h = (f.left x y px.0 py.0, each_left xs ys px.1 py.1 (omega arith))
 
-  each_right : (xs ys : List S) → AllByRecursion P xs → AllByRecursion P ys → length xs ≡ length ys → EachBelow B ys (each_join j xs ys)
+  each_right : (xs ys : List S) → AllByRecursion P xs → AllByRecursion P ys → length xs ≡ length ys → AllZip B ys (each_join j xs ys)
   each_right [] [] px py h = tt
   each_right [] (y ∷ ys) px py h = absurd (omega arith)
   each_right (x ∷ xs) [] px py h = absurd (omega arith)
   each_right (x ∷ xs) (y ∷ ys) px py h = (f.right x y px.0 py.0, each_right xs ys px.1 py.1 (omega arith))
 
-  each_least : (xs ys zs : List S) → AllByRecursion P xs → AllByRecursion P ys → AllByRecursion P zs → EachBelow B xs zs → EachBelow B ys zs → EachBelow B (each_join j xs ys) zs
+  each_least : (xs ys zs : List S) → AllByRecursion P xs → AllByRecursion P ys → AllByRecursion P zs → AllZip B xs zs → AllZip B ys zs → AllZip B (each_join j xs ys) zs
   each_least [] ys zs px py pz h k = h
   each_least (x ∷ xs) [] [] px py pz h k = absurd h
   each_least (x ∷ xs) [] (z ∷ zs) px py pz h k = absurd k
   each_least (x ∷ xs) (y ∷ ys) [] px py pz h k = absurd h
   each_least (x ∷ xs) (y ∷ ys) (z ∷ zs) px py pz h k = (f.least x y z px.0 py.0 pz.0 h.0 k.0, each_least xs ys zs px.1 py.1 pz.1 h.1 k.1)
 
-  pub each : (n : ℕ) → IsJoin (EachProper P n) (EachBelow B) (each_join j)
+  pub each : (n : ℕ) → IsJoin (EachProper P n) (AllZip B) (each_join j)
   each n = record {
     stays = λ x y px py. (each_stays x y px.0 py.0, each_length x y (px.1 ∙ sym py.1) ∙ px.1);
     itself = λ x px. each_itself x px.0;

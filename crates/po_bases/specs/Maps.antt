@@ -1,6 +1,6 @@
 -- Maps as lists of entries that ascend by key: look-ups, joins of what stands at a key, and their order.
-use Rattle.std.specs.Prelude.{◌≡◌, ℕ, suc, ◌≤◌, Bool, true, false, cond, ◌&&◌, List, [], ◌∷◌, length, Option, Some, None, IsTrue, ◌↔◌}
-use Rattle.std.proofs.Common.{refl, sym, ap, ◌∙◌, subst, arith}
+use Rattle.std.specs.Prelude.{◌≡◌, ℕ, suc, ◌≤◌, Bool, true, false, cond, ◌&&◌, List, [], ◌∷◌, ◌++◌, ◌⊎◌, length, Option, Some, None, IsTrue, ◌↔◌}
+use Rattle.std.proofs.Common.{refl, sym, ap, ◌∙◌, subst, arith, inl, inr, append-nil}
 use Rattle.std.specs.List.{AllByRecursion}
 use Rattle.std.specs.declared.cmp.Ordering.{Ordering}
 use Rattle.std.specs.declared.cmp.Ordering.TheVariants.{Less, Equal, Greater}
@@ -17,6 +17,15 @@ module _ {E : Type 0} (order : E → E → Ordering) (join : E → E → E) wher
   abbrev pub merged : List E → List E → List E
   merged [] = λ ys. ys
   merged (x ∷ xs) = merged_with x (merged xs)
+
+  merged-nothing : (xs : List E) → merged xs [] ≡ xs
+  merged-nothing [] = refl
+  merged-nothing (x ∷ xs) = ap (λ ys. x ∷ ys) (merged-nothing xs)
+
+  -- where one of the maps is at its end, the rest of the other follows
+  pub merged_at_end : (xs ys : List E) → (xs ≡ []) ⊎ (ys ≡ []) → merged xs ys ≡ xs ++ ys
+  merged_at_end xs ys (inl none) = rw none refl
+  merged_at_end xs ys (inr none) = rw none (merged-nothing xs ∙ sym (append-nil xs))
 
 -- whether each entry of the first map has one in the second that it is below
 module _ {E : Type 0} (order : E → E → Ordering) (below : E → E → Bool) where
@@ -54,6 +63,11 @@ pub by_order : {X : Type 0} (P : X → Type 0) (o : Ordering) (a b c : X) → (o
 by_order P Less a b c f g h = f refl
 by_order P Equal a b c f g h = g refl
 by_order P Greater a b c f g h = h refl
+
+by_ordering : (o : Ordering) (P : Type 0) → (o ≡ Less → P) → (o ≡ Equal → P) → (o ≡ Greater → P) → P
+by_ordering Less P f g h = f refl
+by_ordering Equal P f g h = g refl
+by_ordering Greater P f g h = h refl
 
 tested : (o : Ordering) → is_eq o ≡ true → o ≡ Equal
 tested Less h = cc
@@ -198,3 +212,110 @@ module _ {E K : Type 0} (key : E → K) (cmp : K → K → Ordering) (total : Is
         (xs ys : List E) → AllByRecursion Form xs → AllByRecursion Form ys → AllByRecursion Form (merged (by_key key cmp) join xs ys)
     merged_forms Form stays [] ys fx fy = fy
     merged_forms Form stays (x ∷ xs) ys fx fy = forms_with Form stays x (merged (by_key key cmp) join xs) fx.0 (λ zs fz. merged_forms Form stays xs zs fx.1 fz) ys fy
+
+  -- ---- the order
+
+  module _ (B : E → E → Type 0) where
+    rest_below : (x y : E) (b c : Bool) (m n : Option E) → b ≡ c → BelowFromNone B (cond b (Some x) m) (cond c (Some y) n) → (b ≡ true → m ≡ None) → BelowFromNone B m n
+    rest_below x y true c m n same h none = rw (none refl) tt
+    rest_below x y false true m n same h none = cc
+    rest_below x y false false m n same h none = h
+
+    more_below : (x y : E) (b c : Bool) (m n : Option E) → b ≡ c → B x y → BelowFromNone B m n → BelowFromNone B (cond b (Some x) m) (cond c (Some y) n)
+    more_below x y true true m n same first h = first
+    more_below x y true false m n same first h = cc
+    more_below x y false true m n same first h = cc
+    more_below x y false false m n same first h = h
+
+    skipped_below : (y : E) (c : Bool) (m n : Option E) → BelowFromNone B m n → (c ≡ true → m ≡ None) → BelowFromNone B m (cond c (Some y) n)
+    skipped_below y true m n h none = rw (none refl) tt
+    skipped_below y false m n h none = h
+
+    unskipped_below : (y : E) (c : Bool) (m n : Option E) → BelowFromNone B m (cond c (Some y) n) → (c ≡ true → m ≡ None) → BelowFromNone B m n
+    unskipped_below y true m n h none = rw (none refl) tt
+    unskipped_below y false m n h none = h
+
+    nothing_below : (x : E) (m n : Option E) → m ≡ Some x → n ≡ None → BelowFromNone B m n → ⊥
+    nothing_below x m n there none h = let at : BelowFromNone B (Some x) None = rw (there, none) at h in at
+
+    -- the first keys of both are the same, the second's is lesser, or the first's is
+    pub below_same : (x y : E) (xs ys : List E) → cmp (key x) (key y) ≡ Equal → AreAfter key cmp (key x) xs →
+        MapBelow key cmp B (x ∷ xs) (y ∷ ys) → B x y × MapBelow key cmp B xs ys
+    below_same x y xs ys h ax below =
+        let keys : key x ≡ key y = one (key x) (key y) h in
+        let there : find key cmp (y ∷ ys) (key x) ≡ Some y = subst (λ k. find key cmp (y ∷ ys) k ≡ Some y) (sym keys) (itself_found y ys) in
+        (subst (λ m. BelowFromNone B m (Some y)) (itself_found x xs) (subst (λ n. BelowFromNone B (find key cmp (x ∷ xs) (key x)) n) there (below (key x))),
+         λ k. rest_below x y (is_eq (cmp (key x) k)) (is_eq (cmp (key y) k)) (find key cmp xs k) (find key cmp ys k)
+            (ap (λ v. is_eq (cmp v k)) keys) (below k) (absent_at k (key x) xs ax))
+
+    pub same_below : (x y : E) (xs ys : List E) → cmp (key x) (key y) ≡ Equal → B x y → MapBelow key cmp B xs ys → MapBelow key cmp B (x ∷ xs) (y ∷ ys)
+    same_below x y xs ys h first below k =
+        more_below x y (is_eq (cmp (key x) k)) (is_eq (cmp (key y) k)) (find key cmp xs k) (find key cmp ys k)
+        (ap (λ v. is_eq (cmp v k)) (one (key x) (key y) h)) first (below k)
+
+    none_before : (x y : E) (xs : List E) → cmp (key x) (key y) ≡ Greater → AreAfter key cmp (key x) xs → (k : K) → is_eq (cmp (key y) k) ≡ true → find key cmp (x ∷ xs) k ≡ None
+    none_before x y xs h ax k =
+        let turned = greater_turned (key x) (key y) h in
+        absent_at k (key y) (x ∷ xs) (turned, after_lower (key y) (key x) turned xs ax)
+
+    pub below_skipped : (x y : E) (xs ys : List E) → cmp (key x) (key y) ≡ Greater → AreAfter key cmp (key x) xs →
+        MapBelow key cmp B (x ∷ xs) (y ∷ ys) → MapBelow key cmp B (x ∷ xs) ys
+    below_skipped x y xs ys h ax below k = unskipped_below y (is_eq (cmp (key y) k)) (find key cmp (x ∷ xs) k) (find key cmp ys k) (below k) (none_before x y xs h ax k)
+
+    pub skipped : (x y : E) (xs ys : List E) → cmp (key x) (key y) ≡ Greater → AreAfter key cmp (key x) xs →
+        MapBelow key cmp B (x ∷ xs) ys → MapBelow key cmp B (x ∷ xs) (y ∷ ys)
+    skipped x y xs ys h ax below k = skipped_below y (is_eq (cmp (key y) k)) (find key cmp (x ∷ xs) k) (find key cmp ys k) (below k) (none_before x y xs h ax k)
+
+    pub not_below : (x : E) (xs ys : List E) → AreAfter key cmp (key x) ys → MapBelow key cmp B (x ∷ xs) ys → ⊥
+    not_below x xs ys ay below = nothing_below x (find key cmp (x ∷ xs) (key x)) (find key cmp ys (key x)) (itself_found x xs) (absent (key x) ys ay) (below (key x))
+
+    pub first_not_below : (x y : E) (xs ys : List E) → cmp (key x) (key y) ≡ Less → AreAfter key cmp (key y) ys → MapBelow key cmp B (x ∷ xs) (y ∷ ys) → ⊥
+    first_not_below x y xs ys h ay = not_below x xs (y ∷ ys) (h, after_lower (key x) (key y) h ys ay)
+
+    -- a lesser map has no more keys
+    shorter_with : (x : E) (xs : List E) → AreAfter key cmp (key x) xs → ((ys : List E) → IsAscending key cmp ys → MapBelow key cmp B xs ys → length xs ≤ length ys) →
+        (ys : List E) → IsAscending key cmp ys → MapBelow key cmp B (x ∷ xs) ys → length (x ∷ xs) ≤ length ys
+    shorter_with x xs ax rest [] ay below = absurd (not_below x xs [] tt below)
+    shorter_with x xs ax rest (y ∷ ys) ay below =
+        by_ordering (cmp (key x) (key y)) (length (x ∷ xs) ≤ length (y ∷ ys))
+        (λ h. absurd (first_not_below x y xs ys h ay.0 below))
+        (λ h. let k = rest ys ay.1 (below_same x y xs ys h ax below).1 in omega arith)
+        (λ h. let k = shorter_with x xs ax rest ys ay.1 (below_skipped x y xs ys h ax below) in omega arith)
+
+    pub shorter : (xs ys : List E) → IsAscending key cmp xs → IsAscending key cmp ys → MapBelow key cmp B xs ys → length xs ≤ length ys
+    shorter [] ys ax ay below = omega arith
+    shorter (x ∷ xs) ys ax ay below = shorter_with x xs ax.0 (λ zs az. shorter xs zs ax.1 az) ys ay below
+
+  -- ---- maps are ordered as their entries are, key by key
+
+  module _ (B : E → E → Type 0) (join : E → E → E) (keeps : (x y : E) → key (join x y) ≡ key x) (Form : E → Type 0)
+      (at_key : (k : K) → IsJoin (λ e. (key e ≡ k) × Form e) B join) where
+    found_in : (x : E) (n : Option E) (k : K) (b : Bool) → is_eq (cmp (key x) k) ≡ b → Form x → IfThere (λ e. (key e ≡ k) × Form e) n → IfThere (λ e. (key e ≡ k) × Form e) (cond b (Some x) n)
+    found_in x n k true h fx rest = (one (key x) k (tested (cmp (key x) k) h), fx)
+    found_in x n k false h fx rest = rest
+
+    pub found_form : (xs : List E) → AllByRecursion Form xs → (k : K) → IfThere (λ e. (key e ≡ k) × Form e) (find key cmp xs k)
+    found_form [] fx k = tt
+    found_form (x ∷ xs) fx k = found_in x (find key cmp xs k) k (is_eq (cmp (key x) k)) refl fx.0 (found_form xs fx.1 k)
+
+    option_at : (k : K) → IsJoin (IfThere (λ e. (key e ≡ k) × Form e)) (BelowFromNone B) (either_join join)
+    option_at k = from_none (at_key k)
+
+    form_stays : (x y : E) → key x ≡ key y → Form x → Form y → Form (join x y)
+    form_stays x y same fx fy = ((at_key (key y)).stays x y (same, fx) (refl, fy)).1
+
+    pub maps : IsJoin (IsMap key cmp Form) (MapBelow key cmp B) (merged (by_key key cmp) join)
+    maps = record {
+      stays = λ x y px py. (merged_ascending join keeps x y px.0 py.0, merged_forms join keeps Form form_stays x y px.1 py.1);
+      itself = λ x px k. (option_at k).itself (find key cmp x k) (found_form x px.1 k);
+      through = λ x y z px py pz h l k.
+          (option_at k).through (find key cmp x k) (find key cmp y k) (find key cmp z k) (found_form x px.1 k) (found_form y py.1 k) (found_form z pz.1 k) (h k) (l k);
+      apart = λ x y px py h l. same_found x y px.0 py.0
+          (λ k. (option_at k).apart (find key cmp x k) (find key cmp y k) (found_form x px.1 k) (found_form y py.1 k) (h k) (l k));
+      left = λ x y px py k. subst (BelowFromNone B (find key cmp x k)) (sym (find-merged join keeps x y px.0 py.0 k))
+          ((option_at k).left (find key cmp x k) (find key cmp y k) (found_form x px.1 k) (found_form y py.1 k));
+      right = λ x y px py k. subst (BelowFromNone B (find key cmp y k)) (sym (find-merged join keeps x y px.0 py.0 k))
+          ((option_at k).right (find key cmp x k) (find key cmp y k) (found_form x px.1 k) (found_form y py.1 k));
+      least = λ x y z px py pz h l k. subst (λ m. BelowFromNone B m (find key cmp z k)) (sym (find-merged join keeps x y px.0 py.0 k))
+          ((option_at k).least (find key cmp x k) (find key cmp y k) (find key cmp z k) (found_form x px.1 k) (found_form y py.1 k) (found_form z pz.1 k) (h k) (l k));
+    }
