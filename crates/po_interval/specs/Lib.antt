@@ -1,0 +1,4 @@
+pub mod Sets
+pub mod Members
+pub mod Within
+pub mod Rounding
