@@ -2,7 +2,9 @@
 use Rattle.std.specs.Prelude.{◌≡◌, ℕ, ◌<◌, ◌≤◌, ◌^◌, min, nat_eq, nat_le, nat_lt, Bool, true, false, cond, not, ◌&&◌, ◌||◌, List, [], ◌∷◌, ◌⊎◌}
 use Rattle.std.specs.declared.cmp.Ordering.{Ordering}
 use Rattle.std.specs.Ordering.{nat_cmp, match_ordering}
+use Rattle.po_base.specs.declared.numbers.NodeNo.{NodeNo}
 use Rattle.po_bases.specs.General.{Surely, AtLeast}
+use Rattle.po_bases.specs.Maps.{merged, by_key, IsMap, MapBelow}
 use Rattle.po_bases.specs.declared.filled.Filled.{Filled}
 use Rattle.po_bases.specs.declared.filled.Filled.TheVariants.{All, Bytes}
 use Rattle.po_bases.specs.declared.heap_fact.HeapFact.{HeapFact}
@@ -35,7 +37,7 @@ abbrev pub FilledBelow : Filled → Filled → Type 0
 FilledBelow f g = (b : ℕ) → Fills g b → Fills f b
 
 -- the bytes of both
-abbrev common_with : ℕ → (List ℕ → List ℕ) → List ℕ → List ℕ
+abbrev pub common_with : ℕ → (List ℕ → List ℕ) → List ℕ → List ℕ
 common_with x rest [] = []
 common_with x rest (y ∷ ys) = match_ordering (nat_cmp x y) (rest (y ∷ ys)) (x ∷ rest ys) (common_with x rest ys)
 
@@ -74,3 +76,31 @@ join_facts f g = record { alive = f.alive && g.alive; size = min f.size g.size; 
 
 abbrev pub fact_within : HeapFact → HeapFact → Bool
 fact_within f g = (f.alive || not g.alive) && nat_le g.size f.size && filled_within f.filled g.filled
+
+-- ---- one fact for each node, ascending by node
+
+abbrev pub node_of : NodeNo × HeapFact → ℕ
+node_of e = e.0.0
+
+abbrev pub heap_cmp : NodeNo × HeapFact → NodeNo × HeapFact → Ordering
+heap_cmp = by_key node_of nat_cmp
+
+abbrev pub join_heap_entries : NodeNo × HeapFact → NodeNo × HeapFact → NodeNo × HeapFact
+join_heap_entries e f = (e.0, join_facts e.1 f.1)
+
+abbrev pub IsHeapEntry : NodeNo × HeapFact → Type 0
+IsHeapEntry e = IsFact e.1
+
+abbrev pub HeapEntryBelow : NodeNo × HeapFact → NodeNo × HeapFact → Type 0
+HeapEntryBelow e f = FactBelow e.1 f.1
+
+abbrev pub IsHeap : List (NodeNo × HeapFact) → Type 0
+IsHeap es = IsMap node_of nat_cmp IsHeapEntry es
+
+-- a node that isn't there is below all
+abbrev pub HeapBelow : List (NodeNo × HeapFact) → List (NodeNo × HeapFact) → Type 0
+HeapBelow es fs = MapBelow node_of nat_cmp HeapEntryBelow es fs
+
+-- a node that isn't there joins as the other's
+abbrev pub join_heap : List (NodeNo × HeapFact) → List (NodeNo × HeapFact) → List (NodeNo × HeapFact)
+join_heap es fs = merged heap_cmp join_heap_entries es fs

@@ -5,10 +5,14 @@ use Rattle.std.specs.declared.cmp.Ordering.{Ordering}
 use Rattle.std.specs.declared.cmp.Ordering.TheVariants.{Less, Equal, Greater}
 use Rattle.std.specs.Ordering.{nat_cmp, match_ordering, MatchOrdering}
 use Rattle.std.proofs.lemmas.Cmp.{ranked}
-use Rattle.po_bases.specs.General.{IsJoin, Surely, surely, AtLeast, at_least, pairs, along, renamed, reordered}
-use Rattle.po_bases.specs.Maps.{by_order}
+use Rattle.po_bases.specs.General.{IsJoin, alone, Surely, surely, surely_tells, le_tells, AtLeast, at_least, pairs, along, renamed, reordered}
+use Rattle.std.specs.Cmp.{nat_cmp_total}
+use Rattle.po_base.specs.declared.numbers.NodeNo.{NodeNo}
+use Rattle.std.specs.Bool.{Decides}
+use Rattle.std.proofs.lemmas.Bool.Decides.{Decides-and}
+use Rattle.po_bases.specs.Maps.{by_order, maps}
 use Rattle.po_bases.specs.BasesLaws.{lesser_is}
-use Rattle.po_bases.specs.Filled.{IsAmong, IsBelowAll, IsAscending, IsFilled, Fills, FilledBelow, common, common_with, join_filled, has_all, filled_within, IsFact, FactBelow, join_facts, fact_within}
+use Rattle.po_bases.specs.Filled.{IsAmong, IsBelowAll, IsAscending, IsFilled, Fills, FilledBelow, common, common_with, join_filled, has_all, filled_within, IsFact, FactBelow, join_facts, fact_within, node_of, IsHeapEntry, HeapEntryBelow, join_heap_entries, IsHeap, HeapBelow, join_heap}
 use Rattle.po_bases.specs.declared.filled.Filled.{Filled}
 use Rattle.po_bases.specs.declared.filled.Filled.TheVariants.{All, Bytes}
 use Rattle.po_bases.specs.declared.heap_fact.HeapFact.{HeapFact}
@@ -20,7 +24,7 @@ is_ranked x y o h = subst (λ v. MatchOrdering v (x < y) (x ≡ y) (y < x)) h (r
 when_less : (x y : ℕ) → nat_cmp x y ≡ Less → x < y
 when_less x y h = is_ranked x y Less h
 
-when_equal : (x y : ℕ) → nat_cmp x y ≡ Equal → x ≡ y
+pub when_equal : (x y : ℕ) → nat_cmp x y ≡ Equal → x ≡ y
 when_equal x y h = is_ranked x y Equal h
 
 when_greater : (x y : ℕ) → nat_cmp x y ≡ Greater → y < x
@@ -37,7 +41,7 @@ not_before x y ys less below (inr later) = let h : y < x = below x later in omeg
 
 common_here : (x : ℕ) (xs : List ℕ) (rest : List ℕ → List ℕ) → IsBelowAll x xs → ((ys : List ℕ) → IsAscending ys → AreCommon xs ys (rest ys)) →
     (ys : List ℕ) → IsAscending ys → AreCommon (x ∷ xs) ys (common_with x rest ys)
-common_here x xs rest ax in_rest [] ay b = (λ h. absurd h, λ h. absurd h.1)
+common_here x xs rest ax in_rest [] ay = λ b. (λ h. absurd h, λ h. absurd h.1)
 common_here x xs rest ax in_rest (y ∷ ys) ay =
     by_order (AreCommon (x ∷ xs) (y ∷ ys)) (nat_cmp x y) _ _ _
     (λ h b. (λ z. let k = (in_rest (y ∷ ys) ay b).0 z in (inr k.0, k.1), λ k. less (when_less x y h) b k.0 k.1))
@@ -61,7 +65,7 @@ common_here x xs rest ax in_rest (y ∷ ys) ay =
   greater deeper h b k (inr later) = (deeper b).1 (k, later)
 
 pub commons : (xs ys : List ℕ) → IsAscending xs → IsAscending ys → AreCommon xs ys (common xs ys)
-commons [] ys ax ay b = (λ h. absurd h, λ h. absurd h.0)
+commons [] ys ax ay = λ b. (λ h. absurd h, λ h. absurd h.0)
 commons (x ∷ xs) ys ax ay = common_here x xs (common xs) ax.0 (λ zs az. commons xs zs ax.1 az) ys ay
 
 -- an item that is below all of one list is below all that it has in common with another
@@ -141,3 +145,67 @@ facts_join =
             (pairs surely (pairs (at_least (λ n. n < 2 ^ 64) lesser_fits) filled_join)))
         IsFact (λ f. (λ h. h.1, λ h. (tt, h))))
     FactBelow (λ x y px py. (λ h. h, λ h. h))
+
+-- ---- heaps
+
+node_at : (n : NodeNo) (k : ℕ) → (n ≡ record { 0 = k }) ↔ (n.0 ≡ k)
+node_at n k = (λ h. ap (λ (m : NodeNo). m.0) h, λ h i. record { 0 = h i })
+
+pub heap_entries : (k : ℕ) → IsJoin (λ e. (node_of e ≡ k) × IsHeapEntry e) HeapEntryBelow join_heap_entries
+heap_entries k =
+    reordered (renamed (pairs (alone (record { 0 = k })) facts_join) (λ e. (node_of e ≡ k) × IsHeapEntry e)
+        (λ e. (λ h. ((node_at e.0 k).0 h.0, h.1), λ h. ((node_at e.0 k).1 h.0, h.1))))
+    HeapEntryBelow (λ x y px py. (λ h. h.1, λ h. (tt, h)))
+
+pub heaps_join : IsJoin IsHeap HeapBelow join_heap
+heaps_join = maps node_of nat_cmp nat_cmp_total when_equal HeapEntryBelow join_heap_entries (λ x y. refl) IsHeapEntry heap_entries
+
+-- ---- the tests tell the orders
+
+HasAll : List ℕ → List ℕ → Type 0
+HasAll xs ys = (b : ℕ) → IsAmong b ys → IsAmong b xs
+
+skipped_all : (x y : ℕ) (xs ys : List ℕ) → x < y → IsBelowAll y ys → HasAll (x ∷ xs) (y ∷ ys) → HasAll xs (y ∷ ys)
+unfolding HasAll
+skipped_all x y xs ys less ay all b k = skipped (all b k) where
+  skipped : IsAmong b (x ∷ xs) → IsAmong b xs
+  skipped (inl same) = absurd (not_before x y ys less ay (subst (λ v. IsAmong v (y ∷ ys)) (sym same) k))
+  skipped (inr later) = later
+
+same_all : (x y : ℕ) (xs ys : List ℕ) → x ≡ y → HasAll xs ys → HasAll (x ∷ xs) (y ∷ ys)
+unfolding HasAll
+same_all x y xs ys same all b (inl here) = inl (same ∙ here)
+same_all x y xs ys same all b (inr later) = inr (all b later)
+
+rest_all : (x y : ℕ) (xs ys : List ℕ) → x ≡ y → IsBelowAll y ys → HasAll (x ∷ xs) (y ∷ ys) → HasAll xs ys
+unfolding HasAll
+rest_all x y xs ys same ay all b k = rest_among y x ys xs (sym same) ay b k (all b (inr k))
+
+decided : (o : Ordering) (P : Type 0) (f g h : Bool) → (o ≡ Less → Decides f P) → (o ≡ Equal → Decides g P) → (o ≡ Greater → Decides h P) → Decides (match_ordering o f g h) P
+decided Less P f g h less equal greater = less refl
+decided Equal P f g h less equal greater = equal refl
+decided Greater P f g h less equal greater = greater refl
+
+tells_all : (xs ys : List ℕ) → IsAscending xs → IsAscending ys → Decides (has_all xs ys) (HasAll xs ys)
+unfolding HasAll
+tells_all [] [] ax ay = (λ h b k. k, λ h. refl)
+tells_all [] (y ∷ ys) ax ay = (λ h. cc, λ h. absurd (h y (inl refl)))
+tells_all (x ∷ xs) [] ax ay = (λ h b k. absurd k, λ h. refl)
+tells_all (x ∷ xs) (y ∷ ys) ax ay =
+    decided (nat_cmp x y) (HasAll (x ∷ xs) (y ∷ ys)) _ _ _
+    (λ h. let later = tells_all xs (y ∷ ys) ax.1 ay in (λ t b k. inr (later.0 t b k), λ all. later.1 (skipped_all x y xs ys (when_less x y h) ay.0 all)))
+    (λ h. let later = tells_all xs ys ax.1 ay.1 in
+        (λ t. same_all x y xs ys (when_equal x y h) (later.0 t), λ all. later.1 (rest_all x y xs ys (when_equal x y h) ay.0 all)))
+    (λ h. (λ no_test. cc, λ all. absurd (not_before y x xs (when_greater x y h) ax.0 (all y (inl refl)))))
+
+pub filled_tells : (f g : Filled) → IsFilled f → IsFilled g → Decides (filled_within f g) (FilledBelow f g)
+unfolding HasAll
+filled_tells All g pf pg = (λ h b k. tt, λ h. refl)
+filled_tells (Bytes xs) All pf pg = (λ h. cc, λ h. let m : 4096 < 4096 = pf.1 4096 (h 4096 tt) in absurd (omega arith))
+filled_tells (Bytes xs) (Bytes ys) pf pg = tells_all xs ys pf.0 pg.0
+
+pub fact_tells : (f g : HeapFact) → IsFact f → IsFact g → Decides (fact_within f g) (FactBelow f g)
+fact_tells f g pf pg =
+    let parts = Decides-and ((f.alive || not g.alive) && nat_le g.size f.size) (filled_within f.filled g.filled)
+        (Decides-and (f.alive || not g.alive) (nat_le g.size f.size) (surely_tells f.alive g.alive) (le_tells g.size f.size)) (filled_tells f.filled g.filled pf.1 pg.1) in
+    (λ t. let p = parts.0 t in (p.0.0, (p.0.1, p.1)), λ b. parts.1 ((b.0, b.1.0), b.1.1))

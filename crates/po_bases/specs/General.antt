@@ -1,5 +1,7 @@
 -- Orders with a join: of tests, of numbers, of pairs, with a least or a greatest value put to them, and of lists of one length.
-use Rattle.std.specs.Prelude.{◌≡◌, ℕ, suc, ◌≤◌, Bool, true, false, ◌&&◌, ◌||◌, min, List, [], ◌∷◌, length, Option, Some, None, IsTrue, ◌↔◌, cond, nat_le}
+use Rattle.std.specs.Prelude.{◌≡◌, ℕ, suc, ◌≤◌, Bool, true, false, ◌&&◌, ◌||◌, min, List, [], ◌∷◌, length, Option, Some, None, IsTrue, ◌↔◌, cond, not, nat_le}
+use Rattle.std.specs.Bool.{Decides}
+use Rattle.std.proofs.lemmas.Bool.{le-leb}
 use Rattle.std.specs.List.{AllByRecursion, AllZip}
 use Rattle.std.proofs.Common.{refl, sym, ap, ◌∙◌, subst, arith, le_trans}
 use borrow.Author.Tests.{leb-true, leb-false}
@@ -156,6 +158,20 @@ at_least Proper stays = record {
   right = λ x y px py. omega arith;
   least = λ x y z px py pz h k. omega arith;
 }
+
+-- the tests of these orders
+pub surely_tells : (a b : Bool) → Decides (a || not b) (Surely a b)
+surely_tells true b = (λ h k. refl, λ h. refl)
+surely_tells false true = (λ h. cc, λ h. h refl)
+surely_tells false false = (λ h k. cc, λ h. refl)
+
+pub maybe_tells : (a b : Bool) → Decides (not a || b) (Maybe a b)
+maybe_tells false b = (λ h k. cc, λ h. refl)
+maybe_tells true true = (λ h k. refl, λ h. refl)
+maybe_tells true false = (λ h. cc, λ h. h refl)
+
+pub le_tells : (a b : ℕ) → Decides (nat_le a b) (a ≤ b)
+le_tells a b = (λ h. leb-true a b h, λ h. le-leb a b h)
 
 -- ---- pairs, part by part
 

@@ -6,6 +6,8 @@ use Rattle.std.specs.declared.cmp.Ordering.{Ordering}
 use Rattle.std.specs.declared.cmp.Ordering.TheVariants.{Less, Equal, Greater}
 use Rattle.std.specs.Ordering.{is_eq, match_ordering, ordering_reverse}
 use Rattle.std.specs.Cmp.{IsTotalOrder, tied_itself}
+use Rattle.std.specs.Bool.{Decides}
+use Rattle.std.proofs.lemmas.Bool.Decides.{Decides-and}
 use Rattle.po_bases.specs.General.{IsJoin, IfThere, BelowFromNone, either_join, from_none}
 
 -- what both maps have, and the join where both have an entry of one key; `order` compares the keys of two entries
@@ -285,6 +287,34 @@ module _ {E K : Type 0} (key : E → K) (cmp : K → K → Ordering) (total : Is
     pub shorter : (xs ys : List E) → IsAscending key cmp xs → IsAscending key cmp ys → MapBelow key cmp B xs ys → length xs ≤ length ys
     shorter [] ys ax ay below = omega arith
     shorter (x ∷ xs) ys ax ay below = shorter_with x xs ax.0 (λ zs az. shorter xs zs ax.1 az) ys ay below
+
+  -- ---- the walk over both tells the order
+
+  module _ (B : E → E → Type 0) (below : E → E → Bool) (Form : E → Type 0) (tells : (x y : E) → Form x → Form y → Decides (below x y) (B x y)) where
+    decided : (o : Ordering) (P : Type 0) (f g h : Bool) → (o ≡ Less → Decides f P) → (o ≡ Equal → Decides g P) → (o ≡ Greater → Decides h P) → Decides (match_ordering o f g h) P
+    decided Less P f g h less equal greater = less refl
+    decided Equal P f g h less equal greater = equal refl
+    decided Greater P f g h less equal greater = greater refl
+
+    covered_with : (x : E) (xs : List E) → AreAfter key cmp (key x) xs → Form x →
+        ((ys : List E) → IsMap key cmp Form ys → Decides (covered (by_key key cmp) below xs ys) (MapBelow key cmp B xs ys)) →
+        (ys : List E) → IsMap key cmp Form ys → Decides (covered (by_key key cmp) below (x ∷ xs) ys) (MapBelow key cmp B (x ∷ xs) ys)
+    covered_with x xs ax fx rest [] map = (λ h. cc, λ h. absurd (not_below B x xs [] tt h))
+    covered_with x xs ax fx rest (y ∷ ys) map =
+        let ay = map.0 in
+        let fy = map.1 in
+        decided (cmp (key x) (key y)) (MapBelow key cmp B (x ∷ xs) (y ∷ ys)) _ _ _
+        (λ h. (λ no_test. cc, λ b. absurd (first_not_below B x y xs ys h ay.0 b)))
+        (λ h.
+            let both = Decides-and (below x y) (covered (by_key key cmp) below xs ys) (tells x y fx fy.0) (rest ys (ay.1, fy.1)) in
+            (λ t. let p = both.0 t in same_below B x y xs ys h p.0 p.1, λ b. both.1 (below_same B x y xs ys h ax b)))
+        (λ h.
+            let later = covered_with x xs ax fx rest ys (ay.1, fy.1) in
+            (λ t. skipped B x y xs ys h ax (later.0 t), λ b. later.1 (below_skipped B x y xs ys h ax b)))
+
+    pub covered_tells : (xs ys : List E) → IsMap key cmp Form xs → IsMap key cmp Form ys → Decides (covered (by_key key cmp) below xs ys) (MapBelow key cmp B xs ys)
+    covered_tells [] ys mx my = (λ h k. tt, λ h. refl)
+    covered_tells (x ∷ xs) ys mx my = covered_with x xs mx.0.0 mx.1.0 (λ zs mz. covered_tells xs zs (mx.0.1, mx.1.1) mz) ys my
 
   -- ---- maps are ordered as their entries are, key by key
 

@@ -1,11 +1,14 @@
 ghost use Rattle.std.specs.Prelude.{◌≡◌, IfOk};
 ghost use Rattle.po_bases.specs.Filled as facts;
+ghost use Rattle.po_bases.specs.Filled.{heap_cmp, join_heap_entries};
 
 use crate::common::{common, has_all};
 use crate::filled::Filled;
 use crate::heap_fact::HeapFact;
-use po_base::{Memory, SharedList};
+use crate::keyed::Keyed;
+use po_base::{Memory, NodeNo, SharedList};
 use std::alloc::Global;
+use std::cmp::Ordering;
 
 /// The bytes that are filled in both.
 pub fn join_filled(alloc: Global, a: &Filled, b: &Filled) -> Result<Filled, Memory>
@@ -52,4 +55,23 @@ pub fn fact_within(a: &HeapFact, b: &HeapFact) -> bool
     ensures { result ≡ facts.fact_within a.now b.now }
 {
     (a.alive || !b.alive) && b.size <= a.size && filled_within(&a.filled, &b.filled)
+}
+
+/// By node; the join has what is known in both.
+impl Keyed for (NodeNo, HeapFact) {
+    ghost key_order = { heap_cmp };
+
+    ghost joined = { join_heap_entries };
+
+    fn cmp_key(&self, other: &(NodeNo, HeapFact)) -> Ordering {
+        self.0.0.cmp(&other.0.0)
+    }
+
+    fn share(&self) -> Result<(NodeNo, HeapFact), Memory> {
+        Ok((self.0, self.1.share()?))
+    }
+
+    fn join(&self, alloc: Global, other: &(NodeNo, HeapFact)) -> Result<(NodeNo, HeapFact), Memory> {
+        Ok((self.0, join_facts(alloc, &self.1, &other.1)?))
+    }
 }

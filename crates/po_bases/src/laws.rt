@@ -5,7 +5,7 @@ ghost use Rattle.po_bases.specs.General.{IsJoin};
 ghost use Rattle.po_bases.specs.Bases.{IsGrain, IsBases, BasesBelow};
 ghost use Rattle.po_bases.specs.Bases as bases;
 ghost use Rattle.po_bases.specs.Cover.{Allows, IsAllowed, IsMove, IsMultiple, IsNotNull};
-ghost use Rattle.po_bases.specs.Filled.{IsFilled, FilledBelow, IsFact, FactBelow};
+ghost use Rattle.po_bases.specs.Filled.{IsFilled, FilledBelow, IsFact, FactBelow, IsHeap, HeapBelow};
 ghost use Rattle.po_bases.specs.Filled as facts;
 ghost use Rattle.po_bases.specs.declared.base.Base.{Base};
 ghost use Rattle.po_bases.specs.declared.bases.Bases.{Bases};
@@ -44,9 +44,10 @@ pub fn moved_bases_cover()
         IsAllowed value (bases.move_bases a by grain) (move p w) }
 {}
 
-/// Filled bytes are ordered, and `join_filled` gives the least upper bound of two; so is what is known of a block.
-/// It does nothing.
+/// Filled bytes are ordered, and `join_filled` gives the least upper bound of two; so is what is known of a block, and
+/// of the blocks of nodes. It does nothing.
 pub fn facts_are_joined()
     ensures bytes { IsJoin IsFilled FilledBelow facts.join_filled }
     ensures blocks { IsJoin IsFact FactBelow facts.join_facts }
+    ensures nodes { IsJoin IsHeap HeapBelow facts.join_heap }
 {}
