@@ -21,7 +21,7 @@ use Rattle.po_bases.specs.declared.heap_fact.HeapFact.{HeapFact}
 is_ranked : (x y : ℕ) (o : Ordering) → nat_cmp x y ≡ o → MatchOrdering o (x < y) (x ≡ y) (y < x)
 is_ranked x y o h = subst (λ v. MatchOrdering v (x < y) (x ≡ y) (y < x)) h (ranked x y (nat_cmp x y) refl)
 
-when_less : (x y : ℕ) → nat_cmp x y ≡ Less → x < y
+pub when_less : (x y : ℕ) → nat_cmp x y ≡ Less → x < y
 when_less x y h = is_ranked x y Less h
 
 pub when_equal : (x y : ℕ) → nat_cmp x y ≡ Equal → x ≡ y

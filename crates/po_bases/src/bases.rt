@@ -6,7 +6,7 @@ use po_base::{Memory, SharedList};
 /// Where a pointer points: at most four bases, ascending and each once, or unknown.
 ///
 /// The list is shared, so that bases take 16 bytes and are copied without asking for memory.
-#[derive(Debug, Drop)]
+#[derive(Debug, Drop, PartialEq, Eq)]
 pub enum Bases {
     Known(SharedList<Entry>),
     Unknown,

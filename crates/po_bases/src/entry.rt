@@ -2,7 +2,7 @@ use crate::base::Base;
 use po_arith::Interval;
 
 /// One base of a pointer, and what the pointer is moved by from there, in bytes.
-#[derive(Clone, Copy, Debug)]
+#[derive(Clone, Copy, Debug, PartialEq, Eq)]
 pub struct Entry {
     pub base: Base,
     pub off: Interval,

@@ -5,7 +5,7 @@ use po_base::{Memory, SharedList};
 /// The bytes of a block that are surely filled: all, or some of the first 4,096, ascending and each once.
 ///
 /// The list is shared, so that it takes 16 bytes and is copied without asking for memory.
-#[derive(Debug, Drop)]
+#[derive(Debug, Drop, PartialEq, Eq)]
 pub enum Filled {
     All,
     Bytes(SharedList<u16>),

@@ -4,7 +4,7 @@ use crate::filled::Filled;
 use po_base::Memory;
 
 /// What is known of the block that the malloc or calloc of a node made last.
-#[derive(Debug, Drop)]
+#[derive(Debug, Drop, PartialEq, Eq)]
 pub struct HeapFact {
     /// It surely wasn't freed.
     pub alive: bool,
