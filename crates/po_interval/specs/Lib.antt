@@ -2,3 +2,5 @@ pub mod Sets
 pub mod Members
 pub mod Within
 pub mod Rounding
+pub mod Ranges
+pub mod Results

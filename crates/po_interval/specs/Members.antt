@@ -31,3 +31,24 @@ abbrev pub join_members : Members → Members → Members
 join_members (Few xs) (Few ys) = join_few xs ys
 join_members (Few xs) Any = Any
 join_members Any b = Any
+
+-- the test tells just whether all that one allows is allowed by the other
+abbrev pub WithinIsExact : Type 0
+WithinIsExact = (a b : Members) → (members_within a b ≡ true → AreWithin a b) × (AreWithin a b → members_within a b ≡ true)
+
+-- members that allow the same numbers are the same
+abbrev pub OneOfAll : Type 0
+OneOfAll = (a b : Members) → IsProper a → IsProper b → AreWithin a b → AreWithin b a → a ≡ b
+
+-- the join is proper, allows what both allow, and no more than any proper members that do
+pub record JoinIsLeast : Type 0 where
+  pub proper : (a b : Members) → IsProper a → IsProper b → IsProper (join_members a b)
+  pub first : (a b : Members) → AreWithin a (join_members a b)
+  pub second : (a b : Members) → AreWithin b (join_members a b)
+  pub least : (a b c : Members) → IsProper c → AreWithin a c → AreWithin b c → AreWithin (join_members a b) c
+
+-- so that neither order nor grouping nor repetition matters
+pub record JoinIsOfSets : Type 0 where
+  pub commutes : (a b : Members) → IsProper a → IsProper b → join_members a b ≡ join_members b a
+  pub associates : (a b c : Members) → IsProper a → IsProper b → IsProper c → join_members (join_members a b) c ≡ join_members a (join_members b c)
+  pub idempotent : (a : Members) → IsProper a → join_members a a ≡ a

@@ -3,6 +3,7 @@ use Rattle.std.specs.Prelude.{ℕ, Bool, true, false, cond, ◌||◌, ℤ, pos, 
 use Rattle.std.specs.Int.{int_min, int_max}
 use Rattle.po_arith.specs.declared.interval.Interval.{Interval}
 use Rattle.po_interval.specs.Sets.{IsAmong}
+use Rattle.po_interval.specs.Within.{interval_within}
 use Rattle.po_interval.specs.declared.thresholds.Thresholds.{Thresholds}
 
 -- the greater one, and the lesser one, of the numbers that are there
@@ -76,3 +77,12 @@ IsNearestDown th head v (Some end) = IsThreshold th head end × (end ≤ℤ v) �
 abbrev pub IsNearestUp : Thresholds → Bool → ℤ → Option ℤ → Type 0
 IsNearestUp th head v None = (w : ℤ) → IsThreshold th head w → v ≤ℤ w → ⊥
 IsNearestUp th head v (Some end) = IsThreshold th head end × (v ≤ℤ end) × ((w : ℤ) → IsThreshold th head w → v ≤ℤ w → end ≤ℤ w)
+
+-- both ends go to the nearest threshold
+abbrev pub RoundsToNearest : Type 0
+RoundsToNearest = (th : Thresholds) (head : Bool) (v : ℤ) → IsNearestDown th head v (round_down th head v) × IsNearestUp th head v (round_up th head v)
+
+-- an interval lies within its rounding, and of two intervals within one another so do the roundings
+pub record RoundingWidens : Type 0 where
+  pub wider : (a : Interval) (th : Thresholds) (head : Bool) → interval_within a (round a th head) ≡ true
+  pub monotone : (a b : Interval) (th : Thresholds) (head : Bool) → interval_within a b ≡ true → interval_within (round a th head) (round b th head) ≡ true

@@ -3,13 +3,25 @@
 //! For each operation of C's integer types the crate gives the interval and the members of its results.
 #![tactic(auto)]
 
+mod arithmetic;
+mod bits;
+mod conversion;
+mod laws;
 mod members;
+mod operations;
 mod rounding;
 mod sets;
 mod thresholds;
 mod within;
 
+pub use conversion::conv_interval;
+pub use laws::{
+    binary_results_are_covered, intervals_are_ordered, join_of_members_is_least,
+    members_are_ordered, rounding_is_to_the_nearest, rounding_widens, unary_results_are_covered,
+    wider_operands_have_wider_results,
+};
 pub use members::{Members, join_members, members_within};
+pub use operations::{bin_interval, un_interval};
 pub use rounding::round;
 pub use thresholds::Thresholds;
 pub use within::interval_within;

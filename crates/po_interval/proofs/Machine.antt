@@ -1,0 +1,145 @@
+-- What the machine's 128 bits hold.
+use Rattle.std.proofs.Common.{◌≡◌, ◌≤◌, ◌<◌, ◌+◌, ◌-◌, ◌*◌, ◌/◌, ◌%◌, ◌^◌, ℕ, zero, suc, Bool, true, false, cond, arith, sym, refl, ap, ◌∙◌, inl, inr, min, FitsSigned, to_z, lit<}
+use Rattle.std.specs.Prelude.{◌&&◌, ℤ, pos, negsuc, neg_ℤ, ◌≤ℤ◌, ◌<ℤ◌, ◌+ℤ◌, ◌-ℤ◌, ◌*ℤ◌, ◌⊎◌, Option, Some, None, int_le, int_div, unsigned_abs}
+use Rattle.std.specs.Int.{int_min, int_max, saturate_signed, w128}
+use Rattle.std.proofs.lemmas.Int.{ints, clamps, to_z_pos, fits_signed_mul, by_lt_z}
+use Rattle.std.proofs.lemmas.Bool.{and_left, and_right, cond-false, cases_lt}
+use Rattle.std.proofs.lemmas.Nat.{pow_below}
+use Rattle.std.proofs.Math.Nat.{mod-eq_of_lt, div-le_self}
+use Rattle.po_arith.specs.declared.int_type.IntType.{IntType}
+use Rattle.po_arith.specs.declared.interval.Interval.{Interval}
+use Rattle.po_arith.specs.declared.range.Range.{Range}
+use Rattle.po_arith.specs.Types.{IsIntType, least, greatest}
+use Rattle.po_interval.specs.Ranges.{range, interval, some_range, as_interval, whole, part, conv_interval, corners, bits_of, near, EndsAlike}
+use Rattle.po_interval.specs.Within.{interval_within}
+use Rattle.po_interval.proofs.Corners.{pow_up}
+use Rattle.po_interval.proofs.Covers.{le_false}
+use Rattle.po_interval.proofs.Bitwise.{small, fits_between, filled_holds}
+use Rattle.po_interval.proofs.Disjunctions.{few_enough}
+
+pub fits_wide : (z : ℤ) → neg_ℤ (pos (2 ^ 120)) ≤ℤ z → z ≤ℤ pos (2 ^ 120) → FitsSigned w128 z
+fits_wide (pos n) low high = record { sfits = omega (arith, ints) }
+fits_wide (negsuc n) low high = record { sfits = omega (arith, ints) }
+
+pub quotient_fits : (v w : ℤ) → neg_ℤ (pos (2 ^ 64)) ≤ℤ v → v ≤ℤ pos (2 ^ 64) → FitsSigned w128 (int_div v w)
+quotient_fits (pos a) (pos b) low high = let less = div-le_self a b in fits_wide _ (omega (arith, ints)) (omega (arith, ints))
+quotient_fits (pos a) (negsuc b) low high = let less = div-le_self a (suc b) in fits_wide _ (omega (arith, ints)) (omega (arith, ints))
+quotient_fits (negsuc a) (pos b) low high = let less = div-le_self (suc a) b in fits_wide _ (omega (arith, ints)) (omega (arith, ints))
+quotient_fits (negsuc a) (negsuc b) low high = let less = div-le_self (suc a) (suc b) in fits_wide _ (omega (arith, ints)) (omega (arith, ints))
+
+-- 1 shifted to the left
+pub power_is : (k : ℕ) → k ≤ 100 → to_z w128 ((1 * 2 ^ k) % 2 ^ 128) ≡ pos (2 ^ k)
+power_is k few =
+    let less = pow_below k 127 (omega arith) in
+    let one : 1 * 2 ^ k ≡ 2 ^ k = omega arith in
+    let under : 2 ^ k < 2 ^ 128 = omega arith in
+    rw (one, mod-eq_of_lt under) (to_z_pos w128 (2 ^ k) less)
+
+pub bits_few : (v : ℤ) → pos 0 ≤ℤ v → v <ℤ pos (2 ^ 64) → bits_of v ≤ 100
+bits_few v some less = few_enough (bits_of v) v less (filled_holds v (fits_between v (omega (arith, ints)) less) some).1
+
+pub count_few : (n : ℤ) → pos 0 ≤ℤ n → n <ℤ pos 64 → unsigned_abs n ≤ 63
+count_few (pos n) low high = omega (arith, ints)
+count_few (negsuc n) low high = absurd (omega (arith, ints))
+
+size_small : (v : ℤ) → pos 0 ≤ℤ v → v <ℤ pos (2 ^ 64) → unsigned_abs v ≤ 2 ^ 64 - 1
+size_small (pos n) low high = omega (arith, ints)
+size_small (negsuc n) low high = absurd (omega (arith, ints))
+
+pub shifted_fits : (v n : ℤ) → pos 0 ≤ℤ v → v <ℤ pos (2 ^ 64) → pos 0 ≤ℤ n → n <ℤ pos 64 → FitsSigned w128 (v *ℤ pos (2 ^ unsigned_abs n))
+shifted_fits v n low high some few =
+    fits_signed_mul w128 v (pos (2 ^ unsigned_abs n)) (2 ^ 64 - 1) (2 ^ 63) (size_small v low high) (pow_up (unsigned_abs n) 63 (count_few n some few)) (lit< tt)
+
+-- a product that 128 bits don't hold is beyond every type
+pub saturated : (x z : ℤ) → x ≡ saturate_signed w128 z → near x ≡ near z
+saturated x (pos n) is = rw is (elim (cases_lt n (2 ^ 127)) [
+  | inl less ↦ ap (λ (m : ℕ). near (pos m)) (omega arith)
+  | inr more ↦ omega (arith, ints, clamps)
+])
+saturated x (negsuc n) is = rw is (elim (cases_lt n (2 ^ 127)) [
+  | inl less ↦ ap (λ (m : ℕ). near (negsuc m)) (omega arith)
+  | inr more ↦ omega (arith, ints, clamps)
+])
+
+least_near : (v w x y : ℤ) → near v ≡ near w → near x ≡ near y → near (int_min v x) ≡ near (int_min w y)
+least_near v w x y one other = omega (arith, ints, clamps)
+
+greatest_near : (v w x y : ℤ) → near v ≡ near w → near x ≡ near y → near (int_max v x) ≡ near (int_max w y)
+greatest_near v w x y one other = omega (arith, ints, clamps)
+
+corners_up : (p q u v : ℤ) → (corners p q u v).lo ≤ℤ (corners p q u v).hi
+corners_up p q u v = omega (arith, ints, clamps)
+
+pub corners_near : (p q u v p' q' u' v' : ℤ) → near p ≡ near p' → near q ≡ near q' → near u ≡ near u' → near v ≡ near v' → EndsAlike (corners p q u v) (corners p' q' u' v')
+corners_near p q u v p' q' u' v' a b c d = record {
+  low = least_near (int_min p q) (int_min p' q') (int_min u v) (int_min u' v') (least_near p p' q q' a b) (least_near u u' v v' c d);
+  high = greatest_near (int_max p q) (int_max p' q') (int_max u v) (int_max u' v') (greatest_near p p' q q' a b) (greatest_near u u' v v' c d);
+  first_up = corners_up p q u v;
+  second_up = corners_up p' q' u' v';
+}
+
+-- what a type makes of ends beyond it doesn't depend on them
+low_same : (t : IntType) (v w : ℤ) → IsIntType t → near v ≡ near w → (int_max v (least t) ≡ int_max w (least t)) ⊎ ((greatest t <ℤ int_max v (least t)) × (greatest t <ℤ int_max w (least t)))
+low_same t v w is alike = let low = (small t is).low in let high = (small t is).high in by_lt_z v (pos (2 ^ 64)) (λ less. inl (omega (arith, ints, clamps))) (λ more. inr (omega (arith, ints, clamps), omega (arith, ints, clamps)))
+
+high_same : (t : IntType) (v w : ℤ) → IsIntType t → near v ≡ near w → (int_min v (greatest t) ≡ int_min w (greatest t)) ⊎ ((int_min v (greatest t) <ℤ least t) × (int_min w (greatest t) <ℤ least t))
+high_same t v w is alike = let low = (small t is).low in let high = (small t is).high in by_lt_z (neg_ℤ (pos (2 ^ 64))) v (λ more. inl (omega (arith, ints, clamps))) (λ less. inr (omega (arith, ints, clamps), omega (arith, ints, clamps)))
+
+le_not : (x y : ℤ) → y <ℤ x → int_le x y ≡ false
+le_not x y less = grind (arith, ints)
+
+none : (lo hi : ℤ) → hi <ℤ lo → some_range lo hi ≡ None
+none lo hi less = cond-false (int_le lo hi) (Some (range lo hi)) None (le_not lo hi less)
+
+ranges_same : (a b lo hi lo' hi' : ℤ) → hi ≤ℤ b → hi' ≤ℤ b → a ≤ℤ lo → a ≤ℤ lo' → (lo ≡ lo') ⊎ ((b <ℤ lo) × (b <ℤ lo')) → (hi ≡ hi') ⊎ ((hi <ℤ a) × (hi' <ℤ a)) → some_range lo hi ≡ some_range lo' hi'
+ranges_same a b lo hi lo' hi' h h' l l' (inl one) (inl other) = rw (one, other) refl
+ranges_same a b lo hi lo' hi' h h' l l' (inr one) other = none lo hi (let far = one.0 in omega (arith, ints)) ∙ sym (none lo' hi' (let far = one.1 in omega (arith, ints)))
+ranges_same a b lo hi lo' hi' h h' l l' (inl one) (inr other) = none lo hi (let far = other.0 in omega (arith, ints)) ∙ sym (none lo' hi' (let far = other.1 in omega (arith, ints)))
+
+parts_same : (t : IntType) (r s : Range) → IsIntType t → EndsAlike r s → part t (interval r.lo r.hi) ≡ part t (interval s.lo s.hi)
+parts_same t r s is alike =
+    ranges_same (least t) (greatest t) (int_max r.lo (least t)) (int_min r.hi (greatest t)) (int_max s.lo (least t)) (int_min s.hi (greatest t))
+    (omega (arith, ints, clamps)) (omega (arith, ints, clamps)) (omega (arith, ints, clamps)) (omega (arith, ints, clamps))
+    (low_same t r.lo s.lo is alike.low) (high_same t r.hi s.hi is alike.high)
+
+-- where an end is beyond the types the other's is too, and neither interval lies within a type
+unlike : (v w : ℤ) → near v ≡ near w → (v ≡ w) ⊎ (((pos (2 ^ 64) ≤ℤ v) × (pos (2 ^ 64) ≤ℤ w)) ⊎ ((v ≤ℤ neg_ℤ (pos (2 ^ 64))) × (w ≤ℤ neg_ℤ (pos (2 ^ 64)))))
+unlike v w alike =
+    by_lt_z v (pos (2 ^ 65))
+    (λ less. by_lt_z (neg_ℤ (pos (2 ^ 65))) v (λ more. inl (omega (arith, ints, clamps))) (λ few. inr (inr (omega (arith, ints, clamps), omega (arith, ints, clamps)))))
+    (λ more. inr (inl (omega (arith, ints, clamps), omega (arith, ints, clamps))))
+
+too_high : (t : IntType) (lo hi : ℤ) → IsIntType t → pos (2 ^ 64) ≤ℤ hi → interval_within (interval lo hi) (whole t) ≡ false
+too_high t lo hi is far = let high = (small t is).high in and_right (int_le (least t) lo) (int_le hi (greatest t)) (le_not hi (greatest t) (omega (arith, ints)))
+
+too_low : (t : IntType) (lo hi : ℤ) → IsIntType t → lo ≤ℤ neg_ℤ (pos (2 ^ 64)) → interval_within (interval lo hi) (whole t) ≡ false
+too_low t lo hi is far = let low = (small t is).low in and_left (int_le (least t) lo) (int_le hi (greatest t)) (le_not (least t) lo (omega (arith, ints)))
+
+abbrev kept : IntType → Interval → Interval
+kept t a = cond (interval_within a (whole t)) a (whole t)
+
+outside : (t : IntType) (a b : Interval) → interval_within a (whole t) ≡ false → interval_within b (whole t) ≡ false → kept t a ≡ kept t b
+outside t a b one other = cond-false (interval_within a (whole t)) a (whole t) one ∙ sym (cond-false (interval_within b (whole t)) b (whole t) other)
+
+kept_same : (t : IntType) (r s : Range) → IsIntType t → EndsAlike r s → kept t (interval r.lo r.hi) ≡ kept t (interval s.lo s.hi)
+kept_same t r s is alike = by (unlike r.lo s.lo alike.low) (unlike r.hi s.hi alike.high)
+  where
+    up : r.lo ≤ℤ r.hi
+    up = alike.first_up
+
+    other_up : s.lo ≤ℤ s.hi
+    other_up = alike.second_up
+
+    by : (r.lo ≡ s.lo) ⊎ (((pos (2 ^ 64) ≤ℤ r.lo) × (pos (2 ^ 64) ≤ℤ s.lo)) ⊎ ((r.lo ≤ℤ neg_ℤ (pos (2 ^ 64))) × (s.lo ≤ℤ neg_ℤ (pos (2 ^ 64))))) → (r.hi ≡ s.hi) ⊎ (((pos (2 ^ 64) ≤ℤ r.hi) × (pos (2 ^ 64) ≤ℤ s.hi)) ⊎ ((r.hi ≤ℤ neg_ℤ (pos (2 ^ 64))) × (s.hi ≤ℤ neg_ℤ (pos (2 ^ 64))))) → kept t (interval r.lo r.hi) ≡ kept t (interval s.lo s.hi)
+    by (inl low) (inl high) = rw (low, high) refl
+    by (inr (inl low)) high = let first = up in let second = other_up in outside t _ _ (too_high t r.lo r.hi is (omega (arith, ints))) (too_high t s.lo s.hi is (omega (arith, ints)))
+    by (inr (inr low)) high = outside t _ _ (too_low t r.lo r.hi is low.0) (too_low t s.lo s.hi is low.1)
+    by (inl low) (inr (inl high)) = outside t _ _ (too_high t r.lo r.hi is high.0) (too_high t s.lo s.hi is high.1)
+    by (inl low) (inr (inr high)) = let first = up in let second = other_up in outside t _ _ (too_low t r.lo r.hi is (omega (arith, ints))) (too_low t s.lo s.hi is (omega (arith, ints)))
+
+pub conv_same : (t : IntType) (r s : Range) → IsIntType t → EndsAlike r s → conv_interval t (interval r.lo r.hi) ≡ conv_interval t (interval s.lo s.hi)
+conv_same t r s is alike = by t.signed
+  where
+    by : (b : Bool) → cond b (as_interval (part t (interval r.lo r.hi))) (Some (kept t (interval r.lo r.hi))) ≡ cond b (as_interval (part t (interval s.lo s.hi))) (Some (kept t (interval s.lo s.hi)))
+    by true = ap as_interval (parts_same t r s is alike)
+    by false = ap Some (kept_same t r s is alike)

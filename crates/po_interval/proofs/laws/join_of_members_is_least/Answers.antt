@@ -1,0 +1,8 @@
+use Rattle.po_interval.proofs.Joins.{join_proper, first_within, second_within, join_least, join_commutes, join_associates, join_idempotent}
+use Rattle.po_interval.proofs.laws.join_of_members_is_least.Goals as goal
+
+pub returns-clause-least : goal.returns-clause-least
+returns-clause-least c = record { proper = join_proper; first = first_within; second = second_within; least = join_least }
+
+pub returns-clause-of_sets : goal.returns-clause-of_sets
+returns-clause-of_sets c = record { commutes = join_commutes; associates = join_associates; idempotent = join_idempotent }

@@ -1,0 +1,11 @@
+use Rattle.std.proofs.Common.{rules, ◌≡◌, refl, ap, FitsSigned, arith}
+use Rattle.std.specs.Prelude.{ℤ, pos, ◌+ℤ◌, ◌-ℤ◌, ◌*ℤ◌, int_div}
+use Rattle.std.specs.Int.{w128}
+use Rattle.std.proofs.lemmas.Int.{to_z-of_z, ints}
+use Rattle.std.proofs.Common.{◌∙◌}
+use Rattle.po_interval.specs.Ranges.{products}
+use Rattle.po_interval.proofs.Machine.{conv_same}
+use Rattle.po_interval.proofs.operations.settled_products.Goals as goal
+
+pub returns : goal.returns
+returns c = c.settled.ensures ∙ conv_same c.args.t c.products.result (products c.args.r.now c.args.s.now) c.requires c.products.ensures
