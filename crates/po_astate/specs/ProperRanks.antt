@@ -128,7 +128,7 @@ module _ (ends : List ℤ) where
   abbrev entry_height : ℕ
   entry_height = 0 + ((suc (length ends) + suc (length ends)) + 16)
 
-  ranked_entries : (k : Base) → IsRanked (λ e. (e.base ≡ k) × EntryForm e) EntryBelow entry_rank entry_height
+  pub ranked_entries : (k : Base) → IsRanked (λ e. (e.base ≡ k) × EntryForm e) EntryBelow entry_rank entry_height
   ranked_entries k =
       ranked_below (ranked_along (λ (e : Entry). (e.base, (e.off, e.grain))) (λ p. record { base = p.0; off = p.1.0; grain = p.1.1 }) (λ e. refl)
           (ranked_pairs (ranked_alone k) (ranked_pairs (ranked_intervals ends) ranked_grains)))
@@ -182,7 +182,7 @@ module _ (ends : List ℤ) where
   node_is : (n : NodeNo) (k : ℕ) → n.0 ≡ k → n ≡ record { 0 = k }
   node_is n k h i = record { 0 = h i }
 
-  ranked_blocks : (k : ℕ) → IsRanked (λ e. (node_of e ≡ k) × BlockForm e) HeapEntryBelow block_rank block_height
+  pub ranked_blocks : (k : ℕ) → IsRanked (λ e. (node_of e ≡ k) × BlockForm e) HeapEntryBelow block_rank block_height
   ranked_blocks k =
       ranked_below (ranked_among
           (ranked_along (λ (e : NodeNo × HeapFact). (e.0, (e.1.alive, (e.1.size, e.1.filled)))) (λ p. (p.0, record { alive = p.1.0; size = p.1.1.0; filled = p.1.1.1 })) (λ e. refl)
@@ -320,6 +320,9 @@ module _ (f : Shape) where
     after k [] h = tt
     after k (g ∷ gs) h = (when_less k (node_of g) h.0, after k gs h.1)
 
+  all_of : (a b : ℕ) → a ≤ b - 0 → a ≤ b
+  all_of a b le = omega arith
+
   from_zero : (es : List (NodeNo × HeapFact)) → AllByRecursion (λ e. 0 ≤ node_of e) es
   from_zero [] = tt
   from_zero (e ∷ es) = (omega arith, from_zero es)
@@ -332,7 +335,7 @@ module _ (f : Shape) where
   proper_form Bottom h = tt
   proper_form (At regs slots heap freed wrote) h =
       ((value_forms f.types regs h.0.0.0 h.1.0, h.0.0.1), (h.0.1.0,
-        (((h.0.1.1.0, block_forms heap h.0.1.1.1 h.1.1), heap_bound 0 f.nodes heap h.0.1.1.0 (from_zero heap) (makers heap h.1.1)), (tt, tt))))
+        (((h.0.1.1.0, block_forms heap h.0.1.1.1 h.1.1), all_of (length heap) f.nodes (heap_bound 0 f.nodes heap h.0.1.1.0 (from_zero heap) (makers heap h.1.1))), (tt, tt))))
 
   -- the rank of a state of the function, and the greatest that it may be
   abbrev pub rank_of : AState → ℕ

@@ -7,6 +7,9 @@ use Rattle.std.specs.declared.cmp.Ordering.{Ordering}
 use Rattle.std.specs.declared.cmp.Ordering.TheVariants.{Less, Equal, Greater}
 use Rattle.std.specs.Ordering.{is_eq, nat_cmp}
 use Rattle.std.proofs.lemmas.Int.{ints}
+use lib.Dec.{T}
+use lib.Signed.{non_neg}
+use lib.IntN.{nat_abs}
 use Rattle.po_base.specs.declared.numbers.NodeNo.{NodeNo}
 use Rattle.po_arith.specs.declared.interval.Interval.{Interval}
 use Rattle.po_arith.specs.Hull.{IsInhabited}
@@ -93,6 +96,11 @@ module _ {S : Type 0} (f : S → S) where
 each_itself : {S : Type 0} (B : S → S → Type 0) → ((x : S) → B x x) → (xs : List S) → AllZip B xs xs
 each_itself B itself [] = tt
 each_itself B itself (x ∷ xs) = (itself x, each_itself B itself xs)
+
+-- a number from 0 to n as a natural number
+pub natural_parts : (low : ℤ) (n : ℕ) → pos 0 ≤ℤ low → low ≤ℤ pos n → T (non_neg low) × (nat_abs low ≤ n)
+natural_parts (pos m) n h k = (tt, omega (arith, ints))
+natural_parts (negsuc m) n h k = absurd (omega (arith, ints))
 
 below_limit : (a b n : ℕ) → a ≤ b → b < n → a < n
 below_limit a b n h k = omega arith
@@ -191,6 +199,12 @@ module _ (law : RoundingWidens) (th : Thresholds) (head : Bool) where
   -- a size is rounded downwards
   pub size_lower : (n : ℕ) → round_size th head n ≤ n
   size_lower n = size_at_most (round (sizes n) th head).lo n (wider (sizes n)).0
+
+  at_most_size : (n : ℕ) (low : ℤ) (end : Option ℤ) → end ≡ Some low → LowBelow (Some (pos n)) end → low ≤ℤ pos n
+  at_most_size n low end is below = let at : LowBelow (Some (pos n)) (Some low) = subst (LowBelow (Some (pos n))) is below in at
+
+  pub rounded_at_most : (n : ℕ) (low : ℤ) → (round (sizes n) th head).lo ≡ Some low → low ≤ℤ pos n
+  rounded_at_most n low is = at_most_size n low (round (sizes n) th head).lo is (wider (sizes n)).0
 
   size_rises : (m n : ℕ) → n ≤ m → round_size th head n ≤ round_size th head m
   size_rises m n h = sizes_rise (round (sizes m) th head).lo (round (sizes n) th head).lo (rises (sizes m) (sizes n) (omega (arith, ints), tt)).0

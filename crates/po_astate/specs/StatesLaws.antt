@@ -121,3 +121,8 @@ module _ (exact : WithinIsExact) (one : OneOfAll) (law : JoinIsLeast) (registers
 
   pub joins_to_first : (s u : AState) → IsState registers slot_count s → IsState registers slot_count u → below_state u s ≡ true → join_state s u ≡ s
   joins_to_first s u ps pu h = join_of_greater tested_join s u ps pu h
+
+-- the values of a state of a function
+pub regs_form : (registers slot_count : ℕ) (s : AState) (regs : List AValue) (slots : List (Option Filled)) (heap : List (NodeNo × HeapFact)) (freed wrote : Bool) →
+    IsState registers slot_count s → s ≡ At regs slots heap freed wrote → AllByRecursion IsValue regs
+regs_form registers slot_count s regs slots heap freed wrote form is = (subst (IsState registers slot_count) is form).0.0

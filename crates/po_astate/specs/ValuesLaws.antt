@@ -63,7 +63,7 @@ either_some false b true d f g h = absurd (let e : false ≡ true = f refl in cc
 either_some false b false d f g h = g h
 
 -- what has an end has one where it is made smaller
-bounded_within : (a b : Interval) → IsBetween a b → is_bounded b ≡ true → is_bounded a ≡ true
+pub bounded_within : (a b : Interval) → IsBetween a b → is_bounded b ≡ true → is_bounded a ≡ true
 bounded_within a b h k = either_some (is_some a.lo) (is_some a.hi) (is_some b.lo) (is_some b.hi) (some_low a.lo b.lo h.0) (some_high a.hi b.hi h.1) k
 
 abbrev Argument : Type 0

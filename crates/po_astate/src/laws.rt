@@ -3,6 +3,9 @@ ghost use Rattle.po_bases.specs.General.{IsJoin};
 ghost use Rattle.po_astate.specs.States as states;
 ghost use Rattle.po_astate.specs.States.{IsState, StateBelow};
 ghost use Rattle.po_astate.specs.Rounding.{round_state};
+ghost use Rattle.po_astate.specs.Ranks.{IsRanked};
+ghost use Rattle.po_astate.specs.Proper.{Shape, IsProperState};
+ghost use Rattle.po_astate.specs.ProperRanks.{rank_of, height_of};
 ghost use Rattle.po_interval.specs.declared.thresholds.Thresholds.{Thresholds};
 ghost use Rattle.po_astate.specs.declared.state.AState.{AState};
 ghost use Rattle.po_astate.specs.declared.state.AState.TheVariants.{Bottom};
@@ -29,4 +32,12 @@ pub fn rounded_states_are_above()
     ensures monotone { (s u : AState) (th : Thresholds) (head : Bool) → StateBelow s u → StateBelow (round_state s th head) (round_state u th head) }
 {
     rounding_widens();
+}
+
+/// Each proper state of a function has a rank of at most the function's height, and a state strictly above another has
+/// the greater rank. It does nothing.
+pub fn proper_states_have_ranks()
+    ensures { (f : Shape) → IsRanked (IsProperState f) StateBelow (rank_of f) (height_of f) }
+{
+    members_are_ordered();
 }

@@ -12,7 +12,7 @@ use Rattle.po_arith.specs.declared.interval.Interval.{Interval}
 use Rattle.po_arith.specs.Hull.{IsAtLeast, IsAtMost, IsIn}
 use Rattle.po_bases.specs.General.{IfThere, BelowFromNone}
 use Rattle.po_bases.specs.Intervals.{IsBetween, LowBelow, HighBelow, in_between}
-use Rattle.po_bases.specs.Maps.{find, IsMap, MapBelow, IsAscending, AreAfter, found_form}
+use Rattle.po_bases.specs.Maps.{find, IsMap, MapBelow, IsAscending, AreAfter, found_form, not_below}
 use Rattle.po_bases.specs.Base.{base_cmp, base_total, base_same, is_null}
 use Rattle.po_bases.specs.Bases.{IsGrain, IsEntry, EntryBelow, join_entries, IsBases, BasesBelow, join_bases, sum, moved_interval, moved_entry, moved_entries, some_known, move_bases}
 use Rattle.po_bases.specs.BasesLaws.{lesser_is, entries, bases_join}
@@ -202,3 +202,58 @@ module _ {V : Type 0} (value : Base → ℤ → Option V) (move : V → ℤ → 
       known_allows (moved_entries by grain es) k (move p w)
       (subst (λ found. EntryAllows value k found (move p w)) (sym (find-moved_entries by grain es k))
         (entry_moved k (is_null k) (find (λ e. e.base) base_cmp es k) p w refl (form_at es form.0.0.1 k) not_null w_in multiple allows))
+
+-- ---- greater bases that are moved by more are greater
+
+sum_lows_rise : (a b c d : Option ℤ) → LowBelow a b → LowBelow c d → LowBelow (sum a c) (sum b d)
+sum_lows_rise a None c d h k = tt
+sum_lows_rise a (Some y) c None h k = tt
+sum_lows_rise None (Some y) c (Some w) h k = absurd h
+sum_lows_rise (Some x) (Some y) None (Some w) h k = absurd k
+sum_lows_rise (Some x) (Some y) (Some v) (Some w) h k = omega (arith, ints)
+
+sum_highs_rise : (a b c d : Option ℤ) → HighBelow a b → HighBelow c d → HighBelow (sum a c) (sum b d)
+sum_highs_rise a None c d h k = tt
+sum_highs_rise a (Some y) c None h k = tt
+sum_highs_rise None (Some y) c (Some w) h k = absurd h
+sum_highs_rise (Some x) (Some y) None (Some w) h k = absurd k
+sum_highs_rise (Some x) (Some y) (Some v) (Some w) h k = omega (arith, ints)
+
+lesser_grains : (g h k l : ℕ) → h ≤ g → l ≤ k → min h l ≤ min g k
+lesser_grains g h k l le less = omega arith
+
+module _ (by more : Interval) (grain lesser : ℕ) (between : IsBetween by more) (less : lesser ≤ grain) where
+  moved_up : (e f : Entry) → EntryBelow e f → EntryBelow (moved_entry by grain e) (moved_entry more lesser f)
+  moved_up e f h =
+      ((sum_lows_rise e.off.lo f.off.lo by.lo more.lo h.0.0 between.0, sum_highs_rise e.off.hi f.off.hi by.hi more.hi h.0.1 between.1),
+       lesser_grains e.grain f.grain grain lesser h.1 less)
+
+  found_up : (null : Bool) (m n : Option Entry) → BelowFromNone EntryBelow m n →
+      BelowFromNone EntryBelow (cond null None (option_map (moved_entry by grain) m)) (cond null None (option_map (moved_entry more lesser) n))
+  found_up true m n h = tt
+  found_up false None n h = tt
+  found_up false (Some e) None h = h
+  found_up false (Some e) (Some f) h = moved_up e f h
+
+  entries_up : (es fs : List Entry) → MapBelow (λ e. e.base) base_cmp EntryBelow es fs →
+      MapBelow (λ e. e.base) base_cmp EntryBelow (moved_entries by grain es) (moved_entries more lesser fs)
+  entries_up es fs below k =
+      subst (λ m. BelowFromNone EntryBelow m (find (λ e. e.base) base_cmp (moved_entries more lesser fs) k)) (sym (find-moved_entries by grain es k))
+      (subst (λ n. BelowFromNone EntryBelow (moved_found by grain k (find (λ e. e.base) base_cmp es k)) n) (sym (find-moved_entries more lesser fs k))
+        (found_up (is_null k) (find (λ e. e.base) base_cmp es k) (find (λ e. e.base) base_cmp fs k) (below k)))
+
+  some_up : (es fs : List Entry) → MapBelow (λ e. e.base) base_cmp EntryBelow es fs → BelowFromNone BasesBelow (some_known es) (some_known fs)
+  some_up [] fs below = tt
+  some_up (e ∷ es) [] below = absurd (not_below (λ (x : Entry). x.base) base_cmp base_total base_same EntryBelow e es [] tt below)
+  some_up (e ∷ es) (f ∷ fs) below = below
+
+  some_known_up : (es : List Entry) → BelowFromNone BasesBelow (some_known es) (Some Unknown)
+  some_known_up [] = tt
+  some_known_up (e ∷ es) = tt
+
+  -- a missing result is below all
+  pub moving_rises : (a b : Bases) → BasesBelow a b → BelowFromNone BasesBelow (move_bases a by grain) (move_bases b more lesser)
+  moving_rises (Known es) (Known fs) below = some_up (moved_entries by grain es) (moved_entries more lesser fs) (entries_up es fs below)
+  moving_rises (Known es) Unknown below = some_known_up (moved_entries by grain es)
+  moving_rises Unknown (Known fs) below = absurd below
+  moving_rises Unknown Unknown below = tt

@@ -66,7 +66,7 @@ by_order P Less a b c f g h = f refl
 by_order P Equal a b c f g h = g refl
 by_order P Greater a b c f g h = h refl
 
-by_ordering : (o : Ordering) (P : Type 0) → (o ≡ Less → P) → (o ≡ Equal → P) → (o ≡ Greater → P) → P
+pub by_ordering : (o : Ordering) (P : Type 0) → (o ≡ Less → P) → (o ≡ Equal → P) → (o ≡ Greater → P) → P
 by_ordering Less P f g h = f refl
 by_ordering Equal P f g h = g refl
 by_ordering Greater P f g h = h refl

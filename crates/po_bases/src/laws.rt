@@ -1,7 +1,8 @@
 ghost use Rattle.std.specs.Prelude.{◌≡◌, ℕ, ◌≤◌, ℤ, Option};
 ghost use Rattle.po_arith.specs.declared.interval.Interval.{Interval};
 ghost use Rattle.po_arith.specs.Hull.{IsIn};
-ghost use Rattle.po_bases.specs.General.{IsJoin};
+ghost use Rattle.po_bases.specs.General.{IsJoin, BelowFromNone};
+ghost use Rattle.po_bases.specs.Intervals.{IsBetween};
 ghost use Rattle.po_bases.specs.Bases.{IsGrain, IsBases, BasesBelow};
 ghost use Rattle.po_bases.specs.Bases as bases;
 ghost use Rattle.po_bases.specs.Cover.{Allows, IsAllowed, IsMove, IsMultiple, IsNotNull};
@@ -19,6 +20,12 @@ pub fn bases_are_joined()
 pub fn joins_of_bases_rise()
     ensures { (a b c d : Bases) → IsBases a → IsBases b → IsBases c → IsBases d →
         BasesBelow a c → BasesBelow b d → BasesBelow (bases.join_bases a b) (bases.join_bases c d) }
+{}
+
+/// Greater bases, moved by a wider interval and a lesser grain, are greater; no bases are the least. It does nothing.
+pub fn moved_bases_rise()
+    ensures { (by more : Interval) (grain lesser : ℕ) → IsBetween by more → lesser ≤ grain → (a b : Bases) → BasesBelow a b →
+        BelowFromNone BasesBelow (bases.move_bases a by grain) (bases.move_bases b more lesser) }
 {}
 
 /// Each pointer, a block and an offset, that bases allow is allowed by greater ones. It does nothing.

@@ -24,7 +24,7 @@ pub use joining::join_bases;
 pub use keyed::Keyed;
 pub use laws::{
     bases_are_joined, facts_are_joined, greater_bases_allow_more, joins_of_bases_cover,
-    joins_of_bases_rise, moved_bases_cover,
+    joins_of_bases_rise, moved_bases_cover, moved_bases_rise,
 };
 pub use merging::merge;
 pub use moving::move_bases;

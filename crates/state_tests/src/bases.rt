@@ -32,17 +32,17 @@ fn bases_are_joined(rt: HostRuntime) -> Result<(), Fail> {
     ];
     let fifth = [entry(Base::Null, 0, 0, 16)];
     let rows: [(&[Entry], &[Entry], &[Entry]); 7] = [
-        (&first, &second, &joined),
-        (&second, &first, &joined),
-        (&first, &first, &first),
-        (&two, &other_two, &four),
-        (&four, &fifth, &[]),
-        (&four, &two, &four),
-        (&first, &[], &[]),
+        (&first[..], &second[..], &joined[..]),
+        (&second[..], &first[..], &joined[..]),
+        (&first[..], &first[..], &first[..]),
+        (&two[..], &other_two[..], &four[..]),
+        (&four[..], &fifth[..], &[]),
+        (&four[..], &two[..], &four[..]),
+        (&first[..], &[], &[]),
     ];
     for (a, b, want) in rows.iter() {
-        let result = join_bases(alloc, &bases_of(alloc, a)?, &bases_of(alloc, b)?)?;
-        assert_eq!(rt; result, bases_of(alloc, want)?);
+        let result = join_bases(alloc, &bases_of(alloc, *a)?, &bases_of(alloc, *b)?)?;
+        assert_eq!(rt; result, bases_of(alloc, *want)?);
     }
     Ok(())
 }

@@ -14,7 +14,9 @@ fn filled_bytes_are_those_of_both(rt: HostRuntime) -> Result<(), Fail> {
         (&[7], &[], &[]),
     ];
     for (a, b, want) in rows.iter() {
-        let (a, b, want) = (bytes(alloc, a)?, bytes(alloc, b)?, bytes(alloc, want)?);
+        let a = bytes(alloc, *a)?;
+        let b = bytes(alloc, *b)?;
+        let want = bytes(alloc, *want)?;
         assert_eq!(rt; join_filled(alloc, &a, &b)?, want);
         assert!(rt; filled_within(&a, &want));
         assert!(rt; filled_within(&b, &want));

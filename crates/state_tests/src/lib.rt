@@ -6,6 +6,8 @@ mod bases;
 #[cfg(test)]
 mod blocks;
 #[cfg(test)]
+mod joins;
+#[cfg(test)]
 mod rounding;
 #[cfg(test)]
 mod sample;

@@ -1,7 +1,7 @@
-use crate::sample::{bases_of, between, entry, one_block, related, state_of};
+use crate::sample::{bases_of, between, entry, no_block, one_block, related, state_of};
 use po_arith::Interval;
 use po_astate::{AState, below_state, round_state};
-use po_base::{List, OrdList};
+use po_base::OrdList;
 use po_bases::{Base, Bases};
 use po_interval::Thresholds;
 use std::alloc::Global;
@@ -57,7 +57,7 @@ fn bottom_and_unknown_stay(rt: HostRuntime) -> Result<(), Fail> {
     assert_eq!(rt; round_state(alloc, &AState::Bottom, &th, true)?, AState::Bottom);
     let mut value = related(None);
     value.bases = Bases::Unknown;
-    let state = state_of(alloc, value, None, List::new(alloc), true)?;
+    let state = state_of(alloc, value, None, no_block(alloc)?, true)?;
     assert_eq!(rt; round_state(alloc, &state, &th, false)?, state);
     Ok(())
 }

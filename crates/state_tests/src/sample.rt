@@ -1,11 +1,11 @@
-ghost use Rattle.std.specs.Prelude.{◌≡◌, IfOk, true};
+ghost use Rattle.std.specs.Prelude.{◌≡◌, [], ◌∷◌, IfOk};
 ghost use Rattle.po_astate.specs.Values.{IsValue, IsRel};
 ghost use Rattle.po_astate.specs.States.{IsState};
 ghost use Rattle.po_bases.specs.General.{IfThere};
 ghost use Rattle.po_bases.specs.Filled.{IsFilled, IsHeap};
 
 use po_arith::Interval;
-use po_astate::{AState, AValue};
+use po_astate::{AState, AValue, join_state};
 use po_base::{List, Memory, NodeNo, SharedList};
 use po_bases::{Base, Bases, Entry, Filled, HeapFact};
 use po_interval::Members;
@@ -39,7 +39,9 @@ pub(crate) fn bytes(alloc: Global, numbers: &[u16]) -> Result<Filled, Memory> {
 }
 
 /// The top of a type, set, with a relation to an argument.
-pub(crate) fn related(rel: Option<(u32, Interval)>) -> AValue {
+pub(crate) fn related(rel: Option<(u32, Interval)>) -> AValue
+    ensures { IsRel rel → IsValue result }
+{
     AValue {
         set: true,
         nonzero: false,
@@ -50,34 +52,86 @@ pub(crate) fn related(rel: Option<(u32, Interval)>) -> AValue {
     }
 }
 
+/// A register related to an argument by 0..1.
+pub(crate) fn near(argument: u32) -> AValue
+    ensures { IsValue result }
+{
+    let by = Interval {
+        lo: Some(0),
+        hi: Some(1),
+    };
+    related(Some((argument, by)))
+}
+
+/// A register related to an argument by 5 and more.
+pub(crate) fn far(argument: u32) -> AValue
+    ensures { IsValue result }
+{
+    let by = Interval {
+        lo: Some(5),
+        hi: None,
+    };
+    related(Some((argument, by)))
+}
+
+/// A list of one item.
+fn one<T: Drop>(alloc: Global, item: T) -> Result<SharedList<T>, Memory>
+    ensures { IfOk result (λ list. list ≡ item ∷ []) }
+{
+    let mut list = List::new(alloc);
+    list.push(item)?;
+    SharedList::from_list(list)
+}
+
 /// A state of one register and one slot.
 pub(crate) fn state_of(
     alloc: Global,
     value: AValue,
     slot: Option<Filled>,
-    heap: List<(NodeNo, HeapFact)>,
+    heap: SharedList<(NodeNo, HeapFact)>,
     freed: bool,
-) -> Result<AState, Memory> {
-    let mut regs = List::new(alloc);
-    regs.push(value)?;
-    let mut slots = List::new(alloc);
-    slots.push(slot)?;
+) -> Result<AState, Memory>
+    ensures { IsValue value → IfThere IsFilled slot → IsHeap heap → IfOk result (IsState 1 1) }
+{
+    let regs = one(alloc, value)?;
+    let slots = one(alloc, slot)?;
     Ok(AState::At {
-        regs: SharedList::from_list(regs)?,
-        slots: SharedList::from_list(slots)?,
-        heap: SharedList::from_list(heap)?,
+        regs,
+        slots,
+        heap,
         freed,
         wrote: false,
     })
 }
 
-pub(crate) fn one_block(alloc: Global, node: u32, alive: bool, size: u64) -> Result<List<(NodeNo, HeapFact)>, Memory> {
+pub(crate) fn no_block(alloc: Global) -> Result<SharedList<(NodeNo, HeapFact)>, Memory>
+    ensures { IfOk result IsHeap }
+{
+    let heap = SharedList::from_list(List::new(alloc))?;
+    Ok(heap)
+}
+
+/// What is known of one block that is wholly filled.
+pub(crate) fn one_block(
+    alloc: Global,
+    node: u32,
+    alive: bool,
+    size: u64,
+) -> Result<SharedList<(NodeNo, HeapFact)>, Memory>
+    ensures { IfOk result IsHeap }
+{
     let fact = HeapFact {
         alive,
         size,
         filled: Filled::All,
     };
-    let mut heap = List::new(alloc);
-    heap.push((NodeNo(node), fact))?;
+    let heap = one(alloc, (NodeNo(node), fact))?;
     Ok(heap)
+}
+
+pub(crate) fn joined(alloc: Global, a: &AState, b: &AState) -> Result<AState, Memory>
+    requires first { IsState 1 1 a.now }
+    requires second { IsState 1 1 b.now }
+{
+    join_state(alloc, a, b)
 }

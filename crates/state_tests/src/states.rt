@@ -1,7 +1,7 @@
-use crate::sample::{bases_of, between, bytes, entry, one_block, related, state_of};
+use crate::sample::{bases_of, between, bytes, entry, no_block, one_block, related, state_of};
 use po_arith::Interval;
 use po_astate::{AState, AValue, below_state};
-use po_base::{List, SharedList};
+use po_base::SharedList;
 use po_bases::{Base, Filled};
 use po_interval::Members;
 use std::test::Fail;
@@ -14,13 +14,13 @@ fn a_register_takes_at_most_256_bytes(rt: HostRuntime) {
 #[test]
 fn states_are_compared(rt: HostRuntime) -> Result<(), Fail> {
     let alloc = rt.alloc();
-    let plain = state_of(alloc, related(None), None, List::new(alloc), false)?;
+    let plain = state_of(alloc, related(None), None, no_block(alloc)?, false)?;
     assert!(rt; below_state(&AState::Bottom, &plain));
     assert!(rt; !below_state(&plain, &AState::Bottom));
     // a relation to another argument, and a wider one
-    let near = state_of(alloc, related(Some((0, between(0, 1)))), None, List::new(alloc), false)?;
-    let wide = state_of(alloc, related(Some((0, Interval { lo: Some(0), hi: None }))), None, List::new(alloc), false)?;
-    let other = state_of(alloc, related(Some((1, between(0, 1)))), None, List::new(alloc), false)?;
+    let near = state_of(alloc, related(Some((0, between(0, 1)))), None, no_block(alloc)?, false)?;
+    let wide = state_of(alloc, related(Some((0, Interval { lo: Some(0), hi: None }))), None, no_block(alloc)?, false)?;
+    let other = state_of(alloc, related(Some((1, between(0, 1)))), None, no_block(alloc)?, false)?;
     assert!(rt; below_state(&near, &wide));
     assert!(rt; !below_state(&wide, &near));
     assert!(rt; !below_state(&near, &other));
@@ -36,14 +36,14 @@ fn states_are_compared(rt: HostRuntime) -> Result<(), Fail> {
     assert!(rt; !below_state(&dead, &block));
     assert!(rt; below_state(&block, &small));
     assert!(rt; !below_state(&small, &block));
-    let entered = state_of(alloc, related(None), Some(bytes(alloc, &[0, 4095])?), List::new(alloc), false)?;
-    let all = state_of(alloc, related(None), Some(Filled::All), List::new(alloc), false)?;
+    let entered = state_of(alloc, related(None), Some(bytes(alloc, &[0, 4095])?), no_block(alloc)?, false)?;
+    let all = state_of(alloc, related(None), Some(Filled::All), no_block(alloc)?, false)?;
     assert!(rt; below_state(&plain, &entered));
     assert!(rt; !below_state(&entered, &plain));
     assert!(rt; below_state(&all, &entered));
     assert!(rt; !below_state(&entered, &all));
     // what may have been freed
-    let freed = state_of(alloc, related(None), None, List::new(alloc), true)?;
+    let freed = state_of(alloc, related(None), None, no_block(alloc)?, true)?;
     assert!(rt; below_state(&plain, &freed));
     assert!(rt; !below_state(&freed, &plain));
     Ok(())
@@ -52,22 +52,22 @@ fn states_are_compared(rt: HostRuntime) -> Result<(), Fail> {
 #[test]
 fn values_are_compared_part_by_part(rt: HostRuntime) -> Result<(), Fail> {
     let alloc = rt.alloc();
-    let top = state_of(alloc, related(None), None, List::new(alloc), false)?;
+    let top = state_of(alloc, related(None), None, no_block(alloc)?, false)?;
     let mut unset = related(None);
     unset.set = false;
-    let unset = state_of(alloc, unset, None, List::new(alloc), false)?;
+    let unset = state_of(alloc, unset, None, no_block(alloc)?, false)?;
     let mut nonzero = related(None);
     nonzero.nonzero = true;
-    let nonzero = state_of(alloc, nonzero, None, List::new(alloc), false)?;
+    let nonzero = state_of(alloc, nonzero, None, no_block(alloc)?, false)?;
     let mut few = related(None);
     few.members = Members::Few(SharedList::from_slice(alloc, &[1, 2, 3, 4, 5, 6, 7, 8])?);
-    let few = state_of(alloc, few, None, List::new(alloc), false)?;
+    let few = state_of(alloc, few, None, no_block(alloc)?, false)?;
     let mut placed = related(None);
     placed.bases = bases_of(alloc, &[entry(Base::Param(0), 0, 0, 16)])?;
-    let placed = state_of(alloc, placed, None, List::new(alloc), false)?;
+    let placed = state_of(alloc, placed, None, no_block(alloc)?, false)?;
     let mut coarse = related(None);
     coarse.bases = bases_of(alloc, &[entry(Base::Param(0), 0, 16, 8)])?;
-    let coarse = state_of(alloc, coarse, None, List::new(alloc), false)?;
+    let coarse = state_of(alloc, coarse, None, no_block(alloc)?, false)?;
     let rows = [
         (&top, &unset),
         (&nonzero, &top),
@@ -76,8 +76,8 @@ fn values_are_compared_part_by_part(rt: HostRuntime) -> Result<(), Fail> {
         (&placed, &coarse),
     ];
     for (lesser, greater) in rows.iter() {
-        assert!(rt; below_state(lesser, greater));
-        assert!(rt; !below_state(greater, lesser));
+        assert!(rt; below_state(*lesser, *greater));
+        assert!(rt; !below_state(*greater, *lesser));
     }
     Ok(())
 }
