@@ -113,13 +113,13 @@ module _ (grid : List ℤ) where
   low_rises : (x y : ℤ) → IsAmong x grid → y ≤ℤ x → (x ≡ y) ⊎ (above_rank x < above_rank y)
   low_rises x y there le = by_lt_z y x
       (λ less. inr (strictly_fewer (λ t. int_lt x t) (λ t. int_lt y t) x
-          (λ t h. less_tested y t (less_through y x t less (less_told x t h))) (never_less x) (less_tested y x less) grid there))
+      (λ t h. less_tested y t (less_through y x t less (less_told x t h))) (never_less x) (less_tested y x less) grid there))
       (λ up. inl (omega (arith, ints)))
 
   high_rises : (x y : ℤ) → IsAmong x grid → x ≤ℤ y → (x ≡ y) ⊎ (under_rank x < under_rank y)
   high_rises x y there le = by_lt_z x y
       (λ less. inr (strictly_fewer (λ t. int_lt t x) (λ t. int_lt t y) x
-          (λ t h. less_tested t y (less_through t x y (less_told t x h) less)) (never_less x) (less_tested x y less) grid there))
+      (λ t h. less_tested t y (less_through t x y (less_told t x h) less)) (never_less x) (less_tested x y less) grid there))
       (λ up. inl (omega (arith, ints)))
 
   pub ranked_lows : IsRanked (λ x. IsAmong x grid) (λ x y. y ≤ℤ x) above_rank (length grid)

@@ -131,7 +131,7 @@ module _ (ends : List ℤ) where
   pub ranked_entries : (k : Base) → IsRanked (λ e. (e.base ≡ k) × EntryForm e) EntryBelow entry_rank entry_height
   ranked_entries k =
       ranked_below (ranked_along (λ (e : Entry). (e.base, (e.off, e.grain))) (λ p. record { base = p.0; off = p.1.0; grain = p.1.1 }) (λ e. refl)
-          (ranked_pairs (ranked_alone k) (ranked_pairs (ranked_intervals ends) ranked_grains)))
+      (ranked_pairs (ranked_alone k) (ranked_pairs (ranked_intervals ends) ranked_grains)))
       EntryBelow (λ x y h. (tt, h))
 
   abbrev bases_rank : Bases → ℕ
@@ -185,9 +185,9 @@ module _ (ends : List ℤ) where
   pub ranked_blocks : (k : ℕ) → IsRanked (λ e. (node_of e ≡ k) × BlockForm e) HeapEntryBelow block_rank block_height
   ranked_blocks k =
       ranked_below (ranked_among
-          (ranked_along (λ (e : NodeNo × HeapFact). (e.0, (e.1.alive, (e.1.size, e.1.filled)))) (λ p. (p.0, record { alive = p.1.0; size = p.1.1.0; filled = p.1.1.1 })) (λ e. refl)
-            (ranked_pairs (ranked_alone (record { 0 = k })) (ranked_pairs ranked_surely (ranked_pairs (ranked_sizes ends) ranked_filled))))
-          (λ e. (node_of e ≡ k) × BlockForm e) (λ e h. (node_is e.0 k h.0, (tt, (h.1.1, h.1.0)))))
+      (ranked_along (λ (e : NodeNo × HeapFact). (e.0, (e.1.alive, (e.1.size, e.1.filled)))) (λ p. (p.0, record { alive = p.1.0; size = p.1.1.0; filled = p.1.1.1 })) (λ e. refl)
+      (ranked_pairs (ranked_alone (record { 0 = k })) (ranked_pairs ranked_surely (ranked_pairs (ranked_sizes ends) ranked_filled))))
+      (λ e. (node_of e ≡ k) × BlockForm e) (λ e h. (node_is e.0 k h.0, (tt, (h.1.1, h.1.0)))))
       HeapEntryBelow (λ x y h. (tt, h))
 
   abbrev heap_rank : List (NodeNo × HeapFact) → ℕ
@@ -213,10 +213,10 @@ module _ (ends : List ℤ) where
   ranked_values : WithinIsExact → IsRanked ValueForm ValueBelow value_rank value_height
   ranked_values exact =
       ranked_below (ranked_among
-          (ranked_along (λ (a : AValue). (a.set, (a.nonzero, (a.range, (a.members, (a.rel, a.bases))))))
-            (λ p. record { set = p.0; nonzero = p.1.0; range = p.1.1.0; members = p.1.1.1.0; rel = p.1.1.1.1.0; bases = p.1.1.1.1.1 }) (λ a. refl)
-            (ranked_pairs ranked_surely (ranked_pairs ranked_surely (ranked_pairs (ranked_intervals ends) (ranked_pairs (ranked_members exact) (ranked_pairs ranked_rels ranked_bases))))))
-          ValueForm (λ a h. (tt, (tt, (h.range, (h.value.members, (h.rel, h.bases)))))))
+      (ranked_along (λ (a : AValue). (a.set, (a.nonzero, (a.range, (a.members, (a.rel, a.bases))))))
+      (λ p. record { set = p.0; nonzero = p.1.0; range = p.1.1.0; members = p.1.1.1.0; rel = p.1.1.1.1.0; bases = p.1.1.1.1.1 }) (λ a. refl)
+      (ranked_pairs ranked_surely (ranked_pairs ranked_surely (ranked_pairs (ranked_intervals ends) (ranked_pairs (ranked_members exact) (ranked_pairs ranked_rels ranked_bases))))))
+      ValueForm (λ a h. (tt, (tt, (h.range, (h.value.members, (h.rel, h.bases)))))))
       ValueBelow (λ a b h. (h.set, (h.nonzero, (h.range, (h.members, (h.rel, h.bases))))))
 
   -- ---- states
@@ -316,9 +316,9 @@ module _ (f : Shape) where
       let high = below.0 in
       let rest : length es ≤ n - suc (node_of e) = heap_bound (suc (node_of e)) n es ascends.1 (after (node_of e) es ascends.0) below.1 in
       omega arith where
-    after : (k : ℕ) (fs : List (NodeNo × HeapFact)) → AreAfter node_of nat_cmp k fs → AllByRecursion (λ e. suc k ≤ node_of e) fs
-    after k [] h = tt
-    after k (g ∷ gs) h = (when_less k (node_of g) h.0, after k gs h.1)
+        after : (k : ℕ) (fs : List (NodeNo × HeapFact)) → AreAfter node_of nat_cmp k fs → AllByRecursion (λ e. suc k ≤ node_of e) fs
+        after k [] h = tt
+        after k (g ∷ gs) h = (when_less k (node_of g) h.0, after k gs h.1)
 
   all_of : (a b : ℕ) → a ≤ b - 0 → a ≤ b
   all_of a b le = omega arith
@@ -333,9 +333,13 @@ module _ (f : Shape) where
 
   proper_form : (s : AState) → IsProperState f s → IfThere (PartsForm (grid f) (length f.types) f.slot_count f.nodes) (parts (grid f) s)
   proper_form Bottom h = tt
-  proper_form (At regs slots heap freed wrote) h =
-      ((value_forms f.types regs h.0.0.0 h.1.0, h.0.0.1), (h.0.1.0,
-        (((h.0.1.1.0, block_forms heap h.0.1.1.1 h.1.1), all_of (length heap) f.nodes (heap_bound 0 f.nodes heap h.0.1.1.0 (from_zero heap) (makers heap h.1.1))), (tt, tt))))
+  proper_form (At regs slots heap freed wrote) h = (
+    (value_forms f.types regs h.0.0.0 h.1.0, h.0.0.1),
+    (
+      h.0.1.0,
+      (((h.0.1.1.0, block_forms heap h.0.1.1.1 h.1.1), all_of (length heap) f.nodes (heap_bound 0 f.nodes heap h.0.1.1.0 (from_zero heap) (makers heap h.1.1))), (tt, tt)),
+    ),
+  )
 
   -- the rank of a state of the function, and the greatest that it may be
   abbrev pub rank_of : AState → ℕ

@@ -190,8 +190,8 @@ module _ {E K : Type 0} (key : E → K) (cmp : K → K → Ordering) (total : Is
       by_ordering (cmp (key x) (key y)) ((x ∷ xs ≡ y ∷ ys) ⊎ (map_rank (x ∷ xs) < map_rank (y ∷ ys)))
       (λ o. absurd (first_not_below key cmp total one B x y xs ys o my.0.0 below))
       (λ o.
-          let both = below_same key cmp total one B x y xs ys o ax below in
-          first_rises x y xs ys ((at_key (key y)).rises x y (one (key x) (key y) o, fx) (refl, my.1.0) both.0) (rest ys (my.0.1, my.1.1) both.1))
+      let both = below_same key cmp total one B x y xs ys o ax below in
+      first_rises x y xs ys ((at_key (key y)).rises x y (one (key x) (key y) o, fx) (refl, my.1.0) both.0) (rest ys (my.0.1, my.1.1) both.1))
       (λ o. later_rises (x ∷ xs) y ys (rises_with x xs ax fx rest ys (my.0.1, my.1.1) (below_skipped key cmp total one B x y xs ys o ax below)))
 
   none_rises : (ys : List E) → ([] ≡ ys) ⊎ (map_rank [] < map_rank ys)

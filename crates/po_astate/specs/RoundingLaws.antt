@@ -168,10 +168,16 @@ module _ (law : RoundingWidens) (th : Thresholds) (head : Bool) where
   bases_stay : (b : Bases) → IsBases b → IsBases (round_bases th head b)
   bases_stay Unknown h = tt
   bases_stay (Known es) h =
-      let long = length_map (round_entry th head) es in
-      (((ascending_map (λ (e : Entry). e.base) base_cmp (round_entry th head) (λ e. refl) es h.0.0.0,
-         all_changed (round_entry th head) IsEntry (λ e form. (inhabited e.off form.0, form.1)) es h.0.0.1),
-        subst (λ n. 0 < n) (sym long) h.0.1), subst (λ n. n ≤ 4) (sym long) h.1)
+      let long = length_map (round_entry th head) es in (
+        (
+          (
+            ascending_map (λ (e : Entry). e.base) base_cmp (round_entry th head) (λ e. refl) es h.0.0.0,
+            all_changed (round_entry th head) IsEntry (λ e form. (inhabited e.off form.0, form.1)) es h.0.0.1,
+          ),
+          subst (λ n. 0 < n) (sym long) h.0.1,
+        ),
+        subst (λ n. n ≤ 4) (sym long) h.1,
+      )
 
   value_wider : (a : AValue) → ValueBelow a (round_value th head a)
   value_wider a = record { set = λ h. h; nonzero = λ h. h; range = wider a.range; members = λ v h. h; rel = rel_wider a.rel; bases = bases_wider a.bases }
@@ -227,21 +233,33 @@ module _ (law : RoundingWidens) (th : Thresholds) (head : Bool) where
   -- the rounded state is above the state
   pub state_wider : (s : AState) → StateBelow s (round_state s th head)
   state_wider Bottom = tt
-  state_wider (At regs slots heap freed wrote) =
-      (each_above (round_value th head) ValueBelow value_wider regs, (each_itself (BelowFromNone FilledBelow) slot_itself slots,
-        (map_above node_of nat_cmp (round_heap_entry th head) (λ e. refl) HeapEntryBelow fact_wider heap, (λ h. h, λ h. h))))
+  state_wider (At regs slots heap freed wrote) = (
+    each_above (round_value th head) ValueBelow value_wider regs,
+    (
+      each_itself (BelowFromNone FilledBelow) slot_itself slots,
+      (map_above node_of nat_cmp (round_heap_entry th head) (λ e. refl) HeapEntryBelow fact_wider heap, (λ h. h, λ h. h)),
+    ),
+  )
 
   -- greater states are rounded to greater ones
   pub state_rises : (s u : AState) → StateBelow s u → StateBelow (round_state s th head) (round_state u th head)
   state_rises Bottom u h = tt
   state_rises (At regs slots heap freed wrote) Bottom h = h
-  state_rises (At regs slots heap freed wrote) (At regs2 slots2 heap2 freed2 wrote2) h =
-      (each_rises (round_value th head) ValueBelow value_rises regs regs2 h.0, (h.1.0,
-        (map_rises node_of nat_cmp (round_heap_entry th head) (λ e. refl) HeapEntryBelow fact_rises heap heap2 h.1.1.0, h.1.1.1)))
+  state_rises (At regs slots heap freed wrote) (At regs2 slots2 heap2 freed2 wrote2) h = (
+    each_rises (round_value th head) ValueBelow value_rises regs regs2 h.0,
+    (
+      h.1.0,
+      (map_rises node_of nat_cmp (round_heap_entry th head) (λ e. refl) HeapEntryBelow fact_rises heap heap2 h.1.1.0, h.1.1.1),
+    ),
+  )
 
   -- a rounded state is one of the same function
   pub state_stays : (registers slot_count : ℕ) (s : AState) → IsState registers slot_count s → IsState registers slot_count (round_state s th head)
   state_stays registers slot_count Bottom h = tt
-  state_stays registers slot_count (At regs slots heap freed wrote) h =
-      ((all_changed (round_value th head) IsValue value_stays regs h.0.0, length_map (round_value th head) regs ∙ h.0.1), (h.1.0,
-        (ascending_map node_of nat_cmp (round_heap_entry th head) (λ e. refl) heap h.1.1.0, all_changed (round_heap_entry th head) IsHeapEntry fact_stays heap h.1.1.1)))
+  state_stays registers slot_count (At regs slots heap freed wrote) h = (
+    (all_changed (round_value th head) IsValue value_stays regs h.0.0, length_map (round_value th head) regs ∙ h.0.1),
+    (
+      h.1.0,
+      (ascending_map node_of nat_cmp (round_heap_entry th head) (λ e. refl) heap h.1.1.0, all_changed (round_heap_entry th head) IsHeapEntry fact_stays heap h.1.1.1),
+    ),
+  )

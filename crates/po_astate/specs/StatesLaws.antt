@@ -102,14 +102,15 @@ module _ (exact : WithinIsExact) (one : OneOfAll) (law : JoinIsLeast) (registers
   state_tells (At regs slots heap freed wrote) Bottom ps pu = (λ h. cc, λ h. absurd h)
   state_tells (At regs slots heap freed wrote) (At regs2 slots2 heap2 freed2 wrote2) ps pu =
       let both = Decides-and ((not freed || freed2) && (not wrote || wrote2) && each_within value_within regs regs2 && each_within slot_within slots slots2) (heap_within heap heap2)
-          (Decides-and ((not freed || freed2) && (not wrote || wrote2) && each_within value_within regs regs2) (each_within slot_within slots slots2)
-            (Decides-and ((not freed || freed2) && (not wrote || wrote2)) (each_within value_within regs regs2)
-              (Decides-and (not freed || freed2) (not wrote || wrote2) (maybe_tells freed freed2) (maybe_tells wrote wrote2))
-              (each_tells IsValue ValueBelow value_within (value_tells exact one law) regs regs2 ps.0.0 pu.0.0))
-            (each_tells (IfThere IsFilled) (BelowFromNone FilledBelow) slot_within slot_tells slots slots2 ps.1.0.0 pu.1.0.0))
-          (heap_tells heap heap2 ps.1.1 pu.1.1) in
-      (λ t. let p = both.0 t in (p.0.0.1, (p.0.1, (p.1, (p.0.0.0.0, p.0.0.0.1)))),
-       λ h. both.1 ((((h.1.1.1.0, h.1.1.1.1), h.0), h.1.0), h.1.1.0))
+      (Decides-and ((not freed || freed2) && (not wrote || wrote2) && each_within value_within regs regs2) (each_within slot_within slots slots2)
+      (Decides-and ((not freed || freed2) && (not wrote || wrote2)) (each_within value_within regs regs2)
+      (Decides-and (not freed || freed2) (not wrote || wrote2) (maybe_tells freed freed2) (maybe_tells wrote wrote2))
+      (each_tells IsValue ValueBelow value_within (value_tells exact one law) regs regs2 ps.0.0 pu.0.0))
+      (each_tells (IfThere IsFilled) (BelowFromNone FilledBelow) slot_within slot_tells slots slots2 ps.1.0.0 pu.1.0.0))
+      (heap_tells heap heap2 ps.1.1 pu.1.1) in (
+        λ t. let p = both.0 t in (p.0.0.1, (p.0.1, (p.1, (p.0.0.0.0, p.0.0.0.1)))),
+        λ h. both.1 ((((h.1.1.1.0, h.1.1.1.1), h.0), h.1.0), h.1.1.0),
+      )
 
   -- the order that the test tells, and the join its least upper bound
   pub tested_join : IsJoin (IsState registers slot_count) (λ s u. below_state s u ≡ true) join_state

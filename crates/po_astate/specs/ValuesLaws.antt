@@ -158,27 +158,29 @@ module _ (exact : WithinIsExact) (one : OneOfAll) (law : JoinIsLeast) where
   pub values_join : IsJoin IsValue ValueBelow join_values
   values_join =
       reordered (renamed
-          (along (λ (a : AValue). (a.set, (a.nonzero, (a.range, (a.members, (a.rel, a.bases))))))
-            (λ p. record { set = p.0; nonzero = p.1.0; range = p.1.1.0; members = p.1.1.1.0; rel = p.1.1.1.1.0; bases = p.1.1.1.1.1 }) (λ a. refl) (λ p. refl)
-            (pairs surely (pairs surely (pairs intervals (pairs members_join (pairs rels_join bases_join))))))
-          IsValue (λ a. (λ h. record { range = h.1.1.0; members = h.1.1.1.0; rel = h.1.1.1.1.0; bases = h.1.1.1.1.1 }, λ h. (tt, (tt, (h.range, (h.members, (h.rel, h.bases))))))))
-      ValueBelow (λ a b pa pb.
-          (λ h. record { set = h.0; nonzero = h.1.0; range = h.1.1.0; members = h.1.1.1.0; rel = h.1.1.1.1.0; bases = h.1.1.1.1.1 },
-           λ h. (h.set, (h.nonzero, (h.range, (h.members, (h.rel, h.bases)))))))
+      (along (λ (a : AValue). (a.set, (a.nonzero, (a.range, (a.members, (a.rel, a.bases))))))
+      (λ p. record { set = p.0; nonzero = p.1.0; range = p.1.1.0; members = p.1.1.1.0; rel = p.1.1.1.1.0; bases = p.1.1.1.1.1 }) (λ a. refl) (λ p. refl)
+      (pairs surely (pairs surely (pairs intervals (pairs members_join (pairs rels_join bases_join))))))
+      IsValue (λ a. (λ h. record { range = h.1.1.0; members = h.1.1.1.0; rel = h.1.1.1.1.0; bases = h.1.1.1.1.1 }, λ h. (tt, (tt, (h.range, (h.members, (h.rel, h.bases))))))))
+      ValueBelow (λ a b pa pb. (
+        λ h. record { set = h.0; nonzero = h.1.0; range = h.1.1.0; members = h.1.1.1.0; rel = h.1.1.1.1.0; bases = h.1.1.1.1.1 },
+        λ h. (h.set, (h.nonzero, (h.range, (h.members, (h.rel, h.bases))))),
+      ))
 
   pub value_tells : (a b : AValue) → IsValue a → IsValue b → Decides (value_within a b) (ValueBelow a b)
   value_tells a b pa pb =
       let both = Decides-and ((a.set || not b.set) && (a.nonzero || not b.nonzero) && interval_within a.range b.range && members_within a.members b.members && rel_within a.rel b.rel) (bases_within a.bases b.bases)
-          (Decides-and ((a.set || not b.set) && (a.nonzero || not b.nonzero) && interval_within a.range b.range && members_within a.members b.members) (rel_within a.rel b.rel)
-            (Decides-and ((a.set || not b.set) && (a.nonzero || not b.nonzero) && interval_within a.range b.range) (members_within a.members b.members)
-              (Decides-and ((a.set || not b.set) && (a.nonzero || not b.nonzero)) (interval_within a.range b.range)
-                (Decides-and (a.set || not b.set) (a.nonzero || not b.nonzero) (surely_tells a.set b.set) (surely_tells a.nonzero b.nonzero))
-                (between_tells a.range b.range))
-              (exact a.members b.members))
-            (rel_tells a.rel b.rel))
-          (bases_tells a.bases b.bases pa.bases pb.bases) in
-      (λ t. let p = both.0 t in record { set = p.0.0.0.0.0; nonzero = p.0.0.0.0.1; range = p.0.0.0.1; members = p.0.0.1; rel = p.0.1; bases = p.1 },
-       λ h. both.1 (((((h.set, h.nonzero), h.range), h.members), h.rel), h.bases))
+      (Decides-and ((a.set || not b.set) && (a.nonzero || not b.nonzero) && interval_within a.range b.range && members_within a.members b.members) (rel_within a.rel b.rel)
+      (Decides-and ((a.set || not b.set) && (a.nonzero || not b.nonzero) && interval_within a.range b.range) (members_within a.members b.members)
+      (Decides-and ((a.set || not b.set) && (a.nonzero || not b.nonzero)) (interval_within a.range b.range)
+      (Decides-and (a.set || not b.set) (a.nonzero || not b.nonzero) (surely_tells a.set b.set) (surely_tells a.nonzero b.nonzero))
+      (between_tells a.range b.range))
+      (exact a.members b.members))
+      (rel_tells a.rel b.rel))
+      (bases_tells a.bases b.bases pa.bases pb.bases) in (
+        λ t. let p = both.0 t in record { set = p.0.0.0.0.0; nonzero = p.0.0.0.0.1; range = p.0.0.0.1; members = p.0.0.1; rel = p.0.1; bases = p.1 },
+        λ h. both.1 (((((h.set, h.nonzero), h.range), h.members), h.rel), h.bases),
+      )
 
   -- where the test holds, the join is one of the two
   pub joins_to_second : (a b : AValue) → IsValue a → IsValue b → value_within a b ≡ true → join_values a b ≡ b

@@ -19,7 +19,12 @@ fn round_rel(rel: &Option<(u32, Interval)>, th: &Thresholds, head: bool) -> Opti
     }
 }
 
-fn round_entries(alloc: Global, entries: &[Entry], th: &Thresholds, head: bool) -> Result<List<Entry>, Memory>
+fn round_entries(
+    alloc: Global,
+    entries: &[Entry],
+    th: &Thresholds,
+    head: bool,
+) -> Result<List<Entry>, Memory>
     ensures { IfOk result (λ rounded. rounded ≡ map (rounding.round_entry th.now head) entries.now) }
 {
     let mut rounded = List::new(alloc);
@@ -58,7 +63,12 @@ fn round_value(alloc: Global, value: &AValue, th: &Thresholds, head: bool) -> Re
     })
 }
 
-fn round_regs(alloc: Global, regs: &[AValue], th: &Thresholds, head: bool) -> Result<List<AValue>, Memory>
+fn round_regs(
+    alloc: Global,
+    regs: &[AValue],
+    th: &Thresholds,
+    head: bool,
+) -> Result<List<AValue>, Memory>
     ensures { IfOk result (λ rounded. rounded ≡ map (rounding.round_value th.now head) regs.now) }
 {
     let mut rounded = List::new(alloc);

@@ -57,7 +57,11 @@ fn join_regs(alloc: Global, a: &[AValue], b: &[AValue]) -> Result<SharedList<AVa
     SharedList::from_list(join_each(alloc, a, b)?)
 }
 
-fn join_slots(alloc: Global, a: &[Option<Filled>], b: &[Option<Filled>]) -> Result<SharedList<Option<Filled>>, Memory>
+fn join_slots(
+    alloc: Global,
+    a: &[Option<Filled>],
+    b: &[Option<Filled>],
+) -> Result<SharedList<Option<Filled>>, Memory>
     requires same { length a.now ≡ length b.now }
     requires first { All (IfThere IsFilled) a.now }
     requires second { All (IfThere IsFilled) b.now }
@@ -66,7 +70,11 @@ fn join_slots(alloc: Global, a: &[Option<Filled>], b: &[Option<Filled>]) -> Resu
     SharedList::from_list(join_each(alloc, a, b)?)
 }
 
-fn join_heap(alloc: Global, a: &[(NodeNo, HeapFact)], b: &[(NodeNo, HeapFact)]) -> Result<SharedList<(NodeNo, HeapFact)>, Memory>
+fn join_heap(
+    alloc: Global,
+    a: &[(NodeNo, HeapFact)],
+    b: &[(NodeNo, HeapFact)],
+) -> Result<SharedList<(NodeNo, HeapFact)>, Memory>
     ensures { IfOk result (λ joined. joined ≡ filled.join_heap a.now b.now) }
 {
     SharedList::from_list(merge(alloc, a, b)?)

@@ -16,7 +16,7 @@ use Rattle.po_bases.specs.declared.bases.Bases.TheVariants.{Known, Unknown}
 -- the lesser of two is one of them
 pub lesser_is : (P : ℕ → Type 0) (g h : ℕ) → P g → P h → P (min g h)
 lesser_is P g h pg ph = elim (cases_lt g h) [
-  inl less ↦ let e : min g h ≡ g = omega arith in subst P (sym e) pg
+  | inl less ↦ let e : min g h ≡ g = omega arith in subst P (sym e) pg
   | inr more ↦ let e : min g h ≡ h = omega arith in subst P (sym e) ph
 ]
 
@@ -27,7 +27,7 @@ grains = at_least IsGrain (lesser_is IsGrain)
 pub entries : (k : Base) → IsJoin (λ e. (e.base ≡ k) × IsEntry e) EntryBelow join_entries
 entries k =
     reordered (along (λ (e : Entry). (e.base, (e.off, e.grain))) (λ p. record { base = p.0; off = p.1.0; grain = p.1.1 }) (λ e. refl) (λ p. refl)
-        (pairs (alone k) (pairs intervals grains)))
+    (pairs (alone k) (pairs intervals grains)))
     EntryBelow (λ x y px py. (λ h. h.1, λ h. (tt, h)))
 
 pub known : IsJoin (IsMap (λ e. e.base) base_cmp IsEntry) (MapBelow (λ e. e.base) base_cmp EntryBelow) (merged entry_cmp join_entries)
@@ -40,9 +40,9 @@ some_known : IsJoin (λ es. IsMap (λ e. e.base) base_cmp IsEntry es × (0 < len
 some_known =
     among known (λ es. IsMap (λ e. e.base) base_cmp IsEntry es × (0 < length es)) (λ x qx. qx.0)
     (λ x y qx qy.
-        let stays = known.stays x y qx.0 qy.0 in
-        let more = known_shorter x (merged entry_cmp join_entries x y) qx.0 stays (known.left x y qx.0 qy.0) in
-        (stays, omega arith))
+    let stays = known.stays x y qx.0 qy.0 in
+    let more = known_shorter x (merged entry_cmp join_entries x y) qx.0 stays (known.left x y qx.0 qy.0) in
+    (stays, omega arith))
 
 few_known : IsPartialJoin (λ es. (IsMap (λ e. e.base) base_cmp IsEntry es × (0 < length es)) × (length es ≤ 4)) (MapBelow (λ e. e.base) base_cmp EntryBelow)
     (λ x y. cond (nat_le (length (merged entry_cmp join_entries x y)) 4) (Some (merged entry_cmp join_entries x y)) None)

@@ -153,7 +153,7 @@ find-moved_entries by grain [] b = none (is_null b) where
 find-moved_entries by grain (x ∷ xs) b =
     split_found b (is_null x.base) (moved_entry by grain x) (moved_entries by grain xs)
     ∙ found_moved by grain b (is_eq (base_cmp x.base b)) (is_null x.base) x (find (λ e. e.base) base_cmp xs b) (find (λ e. e.base) base_cmp (moved_entries by grain xs) b)
-        (λ h. ap is_null (base_same x.base b (tested (base_cmp x.base b) h))) (find-moved_entries by grain xs b)
+    (λ h. ap is_null (base_same x.base b (tested (base_cmp x.base b) h))) (find-moved_entries by grain xs b)
 
 sum_low : (a b : Option ℤ) (v w : ℤ) → IsAtLeast a v → IsAtLeast b w → IsAtLeast (sum a b) (v +ℤ w)
 sum_low None b v w h k = tt
@@ -184,12 +184,18 @@ module _ {V : Type 0} (value : Base → ℤ → Option V) (move : V → ℤ → 
   entry_moved b null None p w null_is form not_null w_in multiple allows = absurd allows
   entry_moved b true (Some e) p w null_is form not_null w_in multiple (v, (v_in, (v_multiple, is))) = absurd (not_null b v null_is is)
   entry_moved b false (Some e) p w null_is form not_null w_in multiple (v, (v_in, (v_multiple, is))) =
-      let least_is : IsGrain (min e.grain grain) = lesser_is IsGrain e.grain grain form.1.1 is_grain in
-      (v +ℤ w, ((sum_low e.off.lo by.lo v w v_in.0 w_in.0, sum_high e.off.hi by.hi v w v_in.1 w_in.1),
-        (sum_multiple (min e.grain grain) v w
-            (multiple_of_lesser e.grain (min e.grain grain) v form.1.1 least_is (omega arith) v_multiple)
-            (multiple_of_lesser grain (min e.grain grain) w is_grain least_is (omega arith) multiple),
-         moves b v w p null_is is)))
+      let least_is : IsGrain (min e.grain grain) = lesser_is IsGrain e.grain grain form.1.1 is_grain in (
+        v +ℤ w,
+        (
+          (sum_low e.off.lo by.lo v w v_in.0 w_in.0, sum_high e.off.hi by.hi v w v_in.1 w_in.1),
+          (
+            sum_multiple (min e.grain grain) v w
+                (multiple_of_lesser e.grain (min e.grain grain) v form.1.1 least_is (omega arith) v_multiple)
+                (multiple_of_lesser grain (min e.grain grain) w is_grain least_is (omega arith) multiple),
+            moves b v w p null_is is,
+          ),
+        ),
+      )
 
   known_allows : (es : List Entry) (k : Base) (p : V) → EntryAllows value k (find (λ e. e.base) base_cmp es k) p → IsAllowed value (some_known es) p
   known_allows [] k p allows = allows
@@ -201,7 +207,7 @@ module _ {V : Type 0} (value : Base → ℤ → Option V) (move : V → ℤ → 
   moved_allows (Known es) p w form not_null w_in multiple (k, allows) =
       known_allows (moved_entries by grain es) k (move p w)
       (subst (λ found. EntryAllows value k found (move p w)) (sym (find-moved_entries by grain es k))
-        (entry_moved k (is_null k) (find (λ e. e.base) base_cmp es k) p w refl (form_at es form.0.0.1 k) not_null w_in multiple allows))
+      (entry_moved k (is_null k) (find (λ e. e.base) base_cmp es k) p w refl (form_at es form.0.0.1 k) not_null w_in multiple allows))
 
 -- ---- greater bases that are moved by more are greater
 
@@ -224,9 +230,10 @@ lesser_grains g h k l le less = omega arith
 
 module _ (by more : Interval) (grain lesser : ℕ) (between : IsBetween by more) (less : lesser ≤ grain) where
   moved_up : (e f : Entry) → EntryBelow e f → EntryBelow (moved_entry by grain e) (moved_entry more lesser f)
-  moved_up e f h =
-      ((sum_lows_rise e.off.lo f.off.lo by.lo more.lo h.0.0 between.0, sum_highs_rise e.off.hi f.off.hi by.hi more.hi h.0.1 between.1),
-       lesser_grains e.grain f.grain grain lesser h.1 less)
+  moved_up e f h = (
+    (sum_lows_rise e.off.lo f.off.lo by.lo more.lo h.0.0 between.0, sum_highs_rise e.off.hi f.off.hi by.hi more.hi h.0.1 between.1),
+    lesser_grains e.grain f.grain grain lesser h.1 less,
+  )
 
   found_up : (null : Bool) (m n : Option Entry) → BelowFromNone EntryBelow m n →
       BelowFromNone EntryBelow (cond null None (option_map (moved_entry by grain) m)) (cond null None (option_map (moved_entry more lesser) n))
@@ -240,7 +247,7 @@ module _ (by more : Interval) (grain lesser : ℕ) (between : IsBetween by more)
   entries_up es fs below k =
       subst (λ m. BelowFromNone EntryBelow m (find (λ e. e.base) base_cmp (moved_entries more lesser fs) k)) (sym (find-moved_entries by grain es k))
       (subst (λ n. BelowFromNone EntryBelow (moved_found by grain k (find (λ e. e.base) base_cmp es k)) n) (sym (find-moved_entries more lesser fs k))
-        (found_up (is_null k) (find (λ e. e.base) base_cmp es k) (find (λ e. e.base) base_cmp fs k) (below k)))
+      (found_up (is_null k) (find (λ e. e.base) base_cmp es k) (find (λ e. e.base) base_cmp fs k) (below k)))
 
   some_up : (es fs : List Entry) → MapBelow (λ e. e.base) base_cmp EntryBelow es fs → BelowFromNone BasesBelow (some_known es) (some_known fs)
   some_up [] fs below = tt

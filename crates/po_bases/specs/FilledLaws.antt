@@ -47,22 +47,22 @@ common_here x xs rest ax in_rest (y ∷ ys) ay =
     (λ h b. (λ z. let k = (in_rest (y ∷ ys) ay b).0 z in (inr k.0, k.1), λ k. less (when_less x y h) b k.0 k.1))
     (λ h b. (λ z. equal_in (when_equal x y h) b z, λ k. equal (when_equal x y h) b k.0 k.1))
     (λ h b. (λ z. let k = (common_here x xs rest ax in_rest ys ay.1 b).0 z in (k.0, inr k.1), λ k. greater (common_here x xs rest ax in_rest ys ay.1) (when_greater x y h) b k.0 k.1)) where
-  less : x < y → (b : ℕ) → IsAmong b (x ∷ xs) → IsAmong b (y ∷ ys) → IsAmong b (rest (y ∷ ys))
-  less h b (inl same) k = absurd (not_before x y ys h ay.0 (subst (λ v. IsAmong v (y ∷ ys)) (sym same) k))
-  less h b (inr later) k = (in_rest (y ∷ ys) ay b).1 (later, k)
+      less : x < y → (b : ℕ) → IsAmong b (x ∷ xs) → IsAmong b (y ∷ ys) → IsAmong b (rest (y ∷ ys))
+      less h b (inl same) k = absurd (not_before x y ys h ay.0 (subst (λ v. IsAmong v (y ∷ ys)) (sym same) k))
+      less h b (inr later) k = (in_rest (y ∷ ys) ay b).1 (later, k)
 
-  equal_in : x ≡ y → (b : ℕ) → IsAmong b (x ∷ rest ys) → IsAmong b (x ∷ xs) × IsAmong b (y ∷ ys)
-  equal_in h b (inl same) = (inl same, inl (sym h ∙ same))
-  equal_in h b (inr later) = let k = (in_rest ys ay.1 b).0 later in (inr k.0, inr k.1)
+      equal_in : x ≡ y → (b : ℕ) → IsAmong b (x ∷ rest ys) → IsAmong b (x ∷ xs) × IsAmong b (y ∷ ys)
+      equal_in h b (inl same) = (inl same, inl (sym h ∙ same))
+      equal_in h b (inr later) = let k = (in_rest ys ay.1 b).0 later in (inr k.0, inr k.1)
 
-  equal : x ≡ y → (b : ℕ) → IsAmong b (x ∷ xs) → IsAmong b (y ∷ ys) → IsAmong b (x ∷ rest ys)
-  equal h b (inl same) k = inl same
-  equal h b (inr later) (inl same) = inl (h ∙ same)
-  equal h b (inr later) (inr k) = inr ((in_rest ys ay.1 b).1 (later, k))
+      equal : x ≡ y → (b : ℕ) → IsAmong b (x ∷ xs) → IsAmong b (y ∷ ys) → IsAmong b (x ∷ rest ys)
+      equal h b (inl same) k = inl same
+      equal h b (inr later) (inl same) = inl (h ∙ same)
+      equal h b (inr later) (inr k) = inr ((in_rest ys ay.1 b).1 (later, k))
 
-  greater : AreCommon (x ∷ xs) ys (common_with x rest ys) → y < x → (b : ℕ) → IsAmong b (x ∷ xs) → IsAmong b (y ∷ ys) → IsAmong b (common_with x rest ys)
-  greater deeper h b k (inl same) = absurd (not_before y x xs h ax (subst (λ v. IsAmong v (x ∷ xs)) (sym same) k))
-  greater deeper h b k (inr later) = (deeper b).1 (k, later)
+      greater : AreCommon (x ∷ xs) ys (common_with x rest ys) → y < x → (b : ℕ) → IsAmong b (x ∷ xs) → IsAmong b (y ∷ ys) → IsAmong b (common_with x rest ys)
+      greater deeper h b k (inl same) = absurd (not_before y x xs h ax (subst (λ v. IsAmong v (x ∷ xs)) (sym same) k))
+      greater deeper h b k (inr later) = (deeper b).1 (k, later)
 
 pub commons : (xs ys : List ℕ) → IsAscending xs → IsAscending ys → AreCommon xs ys (common xs ys)
 commons [] ys ax ay = λ b. (λ h. absurd h, λ h. absurd h.0)
@@ -141,9 +141,9 @@ lesser_fits x y px py = lesser_is (λ n. n < 2 ^ 64) x y px py
 pub facts_join : IsJoin IsFact FactBelow join_facts
 facts_join =
     reordered (renamed
-        (along (λ (f : HeapFact). (f.alive, (f.size, f.filled))) (λ p. record { alive = p.0; size = p.1.0; filled = p.1.1 }) (λ f. refl) (λ p. refl)
-            (pairs surely (pairs (at_least (λ n. n < 2 ^ 64) lesser_fits) filled_join)))
-        IsFact (λ f. (λ h. h.1, λ h. (tt, h))))
+    (along (λ (f : HeapFact). (f.alive, (f.size, f.filled))) (λ p. record { alive = p.0; size = p.1.0; filled = p.1.1 }) (λ f. refl) (λ p. refl)
+    (pairs surely (pairs (at_least (λ n. n < 2 ^ 64) lesser_fits) filled_join)))
+    IsFact (λ f. (λ h. h.1, λ h. (tt, h))))
     FactBelow (λ x y px py. (λ h. h, λ h. h))
 
 -- ---- heaps
@@ -154,7 +154,7 @@ node_at n k = (λ h. ap (λ (m : NodeNo). m.0) h, λ h i. record { 0 = h i })
 pub heap_entries : (k : ℕ) → IsJoin (λ e. (node_of e ≡ k) × IsHeapEntry e) HeapEntryBelow join_heap_entries
 heap_entries k =
     reordered (renamed (pairs (alone (record { 0 = k })) facts_join) (λ e. (node_of e ≡ k) × IsHeapEntry e)
-        (λ e. (λ h. ((node_at e.0 k).0 h.0, h.1), λ h. ((node_at e.0 k).1 h.0, h.1))))
+    (λ e. (λ h. ((node_at e.0 k).0 h.0, h.1), λ h. ((node_at e.0 k).1 h.0, h.1))))
     HeapEntryBelow (λ x y px py. (λ h. h.1, λ h. (tt, h)))
 
 pub heaps_join : IsJoin IsHeap HeapBelow join_heap
@@ -195,7 +195,7 @@ tells_all (x ∷ xs) (y ∷ ys) ax ay =
     decided (nat_cmp x y) (HasAll (x ∷ xs) (y ∷ ys)) _ _ _
     (λ h. let later = tells_all xs (y ∷ ys) ax.1 ay in (λ t b k. inr (later.0 t b k), λ all. later.1 (skipped_all x y xs ys (when_less x y h) ay.0 all)))
     (λ h. let later = tells_all xs ys ax.1 ay.1 in
-        (λ t. same_all x y xs ys (when_equal x y h) (later.0 t), λ all. later.1 (rest_all x y xs ys (when_equal x y h) ay.0 all)))
+    (λ t. same_all x y xs ys (when_equal x y h) (later.0 t), λ all. later.1 (rest_all x y xs ys (when_equal x y h) ay.0 all)))
     (λ h. (λ no_test. cc, λ all. absurd (not_before y x xs (when_greater x y h) ax.0 (all y (inl refl)))))
 
 pub filled_tells : (f g : Filled) → IsFilled f → IsFilled g → Decides (filled_within f g) (FilledBelow f g)
@@ -207,5 +207,5 @@ filled_tells (Bytes xs) (Bytes ys) pf pg = tells_all xs ys pf.0 pg.0
 pub fact_tells : (f g : HeapFact) → IsFact f → IsFact g → Decides (fact_within f g) (FactBelow f g)
 fact_tells f g pf pg =
     let parts = Decides-and ((f.alive || not g.alive) && nat_le g.size f.size) (filled_within f.filled g.filled)
-        (Decides-and (f.alive || not g.alive) (nat_le g.size f.size) (surely_tells f.alive g.alive) (le_tells g.size f.size)) (filled_tells f.filled g.filled pf.1 pg.1) in
+    (Decides-and (f.alive || not g.alive) (nat_le g.size f.size) (surely_tells f.alive g.alive) (le_tells g.size f.size)) (filled_tells f.filled g.filled pf.1 pg.1) in
     (λ t. let p = parts.0 t in (p.0.0, (p.0.1, p.1)), λ b. parts.1 ((b.0, b.1.0), b.1.1))

@@ -176,9 +176,9 @@ le_tells a b = (λ h. leb-true a b h, λ h. le-leb a b h)
 -- ---- pairs, part by part
 
 pub pairs :
-  {S T : Type 0} {P : S → Type 0} {B : S → S → Type 0} {j : S → S → S} {Q : T → Type 0} {C : T → T → Type 0} {k : T → T → T} →
-  IsJoin P B j → IsJoin Q C k →
-  IsJoin (λ (p : S × T). P p.0 × Q p.1) (λ p q. B p.0 q.0 × C p.1 q.1) (λ p q. (j p.0 q.0, k p.1 q.1))
+    {S T : Type 0} {P : S → Type 0} {B : S → S → Type 0} {j : S → S → S} {Q : T → Type 0} {C : T → T → Type 0} {k : T → T → T} →
+    IsJoin P B j → IsJoin Q C k →
+    IsJoin (λ (p : S × T). P p.0 × Q p.1) (λ p q. B p.0 q.0 × C p.1 q.1) (λ p q. (j p.0 q.0, k p.1 q.1))
 pairs f g = record {
   stays = λ x y px py. (f.stays x.0 y.0 px.0 py.0, g.stays x.1 y.1 px.1 py.1);
   itself = λ x px. (f.itself x.0 px.0, g.itself x.1 px.1);
@@ -191,9 +191,9 @@ pairs f g = record {
 
 -- values told by their parts, to which and from which there is one way
 pub along :
-  {S T : Type 0} (parts : S → T) (whole : T → S) → ((s : S) → whole (parts s) ≡ s) → ((t : T) → parts (whole t) ≡ t) →
-  {P : T → Type 0} {B : T → T → Type 0} {j : T → T → T} → IsJoin P B j →
-  IsJoin (λ s. P (parts s)) (λ s t. B (parts s) (parts t)) (λ s t. whole (j (parts s) (parts t)))
+    {S T : Type 0} (parts : S → T) (whole : T → S) → ((s : S) → whole (parts s) ≡ s) → ((t : T) → parts (whole t) ≡ t) →
+    {P : T → Type 0} {B : T → T → Type 0} {j : T → T → T} → IsJoin P B j →
+    IsJoin (λ s. P (parts s)) (λ s t. B (parts s) (parts t)) (λ s t. whole (j (parts s) (parts t)))
 along parts whole back there {P} {B} {j} f = record {
   stays = λ x y px py. subst P (sym (there (j (parts x) (parts y)))) (f.stays (parts x) (parts y) px py);
   itself = λ x px. f.itself (parts x) px;
@@ -328,9 +328,9 @@ module _ {S : Type 0} {P : S → Type 0} {B : S → S → Type 0} {j : S → S �
 
 -- of limited size: a join past the limit is None
 pub limited :
-  {S : Type 0} {P : S → Type 0} {B : S → S → Type 0} {j : S → S → S} (f : IsJoin P B j) (size : S → ℕ) (n : ℕ) →
-  ((x y : S) → P x → P y → B x y → size x ≤ size y) →
-  IsPartialJoin (λ x. P x × (size x ≤ n)) B (λ x y. cond (nat_le (size (j x y)) n) (Some (j x y)) None)
+    {S : Type 0} {P : S → Type 0} {B : S → S → Type 0} {j : S → S → S} (f : IsJoin P B j) (size : S → ℕ) (n : ℕ) →
+    ((x y : S) → P x → P y → B x y → size x ≤ size y) →
+    IsPartialJoin (λ x. P x × (size x ≤ n)) B (λ x y. cond (nat_le (size (j x y)) n) (Some (j x y)) None)
 limited {S} {P} {B} {j} f size n grows = record {
   stays = λ x y px py. stays (nat_le (size (j x y)) n) (j x y) refl (f.stays x y px.0 py.0);
   itself = λ x px. f.itself x px.0;

@@ -63,12 +63,12 @@ high_in (Some x) (Some y) v h = omega (arith, ints, clamps)
 pub intervals : IsJoin IsInhabited IsBetween hull
 intervals =
     among (along (λ a. (a.lo, a.hi)) (λ p. record { lo = p.0; hi = p.1 }) (λ a. refl) (λ p. refl)
-        (pairs (rejoined (up_to_none lows) lower lower_same) (rejoined (up_to_none highs) upper upper_same)))
+    (pairs (rejoined (up_to_none lows) lower lower_same) (rejoined (up_to_none highs) upper upper_same)))
     IsInhabited (λ a inhabited. (free a.lo, free a.hi))
     (λ a b (v, v_in) inhabited. (v, (low_in a.lo b.lo v v_in.0, high_in a.hi b.hi v v_in.1))) where
-  free : (a : Option ℤ) → IfThere (λ (x : ℤ). Unit {0}) a
-  free None = tt
-  free (Some x) = tt
+      free : (a : Option ℤ) → IfThere (λ (x : ℤ). Unit {0}) a
+      free None = tt
+      free (Some x) = tt
 
 -- what lies in the one lies in the other
 low_up : (a b : Option ℤ) (v : ℤ) → LowBelow a b → IsAtLeast a v → IsAtLeast b v

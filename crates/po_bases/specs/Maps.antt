@@ -119,7 +119,7 @@ module _ {E K : Type 0} (key : E → K) (cmp : K → K → Ordering) (total : Is
       let first : Some x ≡ Some y = sym (itself_found x xs) ∙ same (key x) ∙ there in
       let equal : x ≡ y = cc in
       let others : xs ≡ ys = rest (λ k. rest_same x y (is_eq (cmp (key x) k)) (is_eq (cmp (key y) k)) (find key cmp xs k) (find key cmp ys k)
-          (ap (λ v. is_eq (cmp v k)) keys) (same k) (absent_at k (key x) xs ax) (absent_at k (key y) ys ay)) in
+      (ap (λ v. is_eq (cmp v k)) keys) (same k) (absent_at k (key x) xs ax) (absent_at k (key y) ys ay)) in
       λ i. equal i ∷ others i
   same_by Greater x y xs ys h ax ay same rest =
       let turned : cmp (key y) (key x) ≡ Less = greater_turned (key x) (key y) h in
@@ -160,12 +160,12 @@ module _ {E K : Type 0} (key : E → K) (cmp : K → K → Ordering) (total : Is
     found_with x xs rest ax in_rest (y ∷ ys) ay k =
         by_order (λ zs. find key cmp zs k ≡ either_join join (find key cmp (x ∷ xs) k) (find key cmp (y ∷ ys) k)) (cmp (key x) (key y)) _ _ _
         (λ h. found_less (is_eq (cmp (key x) k)) x (find key cmp (rest (y ∷ ys)) k) (find key cmp xs k) (find key cmp (y ∷ ys) k) (in_rest (y ∷ ys) ay k)
-            (absent_at k (key x) (y ∷ ys) (h, after_lower (key x) (key y) h ys ay.0)))
+        (absent_at k (key x) (y ∷ ys) (h, after_lower (key x) (key y) h ys ay.0)))
         (λ h. found_equal (is_eq (cmp (key (join x y)) k)) (is_eq (cmp (key x) k)) (is_eq (cmp (key y) k)) x y (find key cmp (rest ys) k) (find key cmp xs k) (find key cmp ys k)
-            (ap (λ v. is_eq (cmp v k)) (keeps x y)) (ap (λ v. is_eq (cmp v k)) (one (key x) (key y) h)) (in_rest ys ay.1 k))
+        (ap (λ v. is_eq (cmp v k)) (keeps x y)) (ap (λ v. is_eq (cmp v k)) (one (key x) (key y) h)) (in_rest ys ay.1 k))
         (λ h. let turned = greater_turned (key x) (key y) h in
-            found_greater (is_eq (cmp (key y) k)) y (find key cmp (merged_with (by_key key cmp) join x rest ys) k) (find key cmp (x ∷ xs) k) (find key cmp ys k)
-            (found_with x xs rest ax in_rest ys ay.1 k) (absent_at k (key y) (x ∷ xs) (turned, after_lower (key y) (key x) turned xs ax)))
+        found_greater (is_eq (cmp (key y) k)) y (find key cmp (merged_with (by_key key cmp) join x rest ys) k) (find key cmp (x ∷ xs) k) (find key cmp ys k)
+        (found_with x xs rest ax in_rest ys ay.1 k) (absent_at k (key y) (x ∷ xs) (turned, after_lower (key y) (key x) turned xs ax)))
 
     pub find-merged : (xs ys : List E) → IsAscending key cmp xs → IsAscending key cmp ys → (k : K) →
         find key cmp (merged (by_key key cmp) join xs ys) k ≡ either_join join (find key cmp xs k) (find key cmp ys k)
@@ -191,10 +191,13 @@ module _ {E K : Type 0} (key : E → K) (cmp : K → K → Ordering) (total : Is
     ascending_with x xs ax in_rest (y ∷ ys) ay =
         by_order (IsAscending key cmp) (cmp (key x) (key y)) _ _ _
         (λ h. (merged_after (key x) xs ax (y ∷ ys) (h, after_lower (key x) (key y) h ys ay.0), in_rest (y ∷ ys) ay))
-        (λ h. (subst (λ k. AreAfter key cmp k (merged (by_key key cmp) join xs ys)) (sym (keeps x y))
-                (merged_after (key x) xs ax ys (subst (λ k. AreAfter key cmp k ys) (sym (one (key x) (key y) h)) ay.0)), in_rest ys ay.1))
+        (λ h. (
+          subst (λ k. AreAfter key cmp k (merged (by_key key cmp) join xs ys)) (sym (keeps x y))
+              (merged_after (key x) xs ax ys (subst (λ k. AreAfter key cmp k ys) (sym (one (key x) (key y) h)) ay.0)),
+          in_rest ys ay.1,
+        ))
         (λ h. let turned = greater_turned (key x) (key y) h in
-            (merged_after (key y) (x ∷ xs) (turned, after_lower (key y) (key x) turned xs ax) ys ay.0, ascending_with x xs ax in_rest ys ay.1))
+        (merged_after (key y) (x ∷ xs) (turned, after_lower (key y) (key x) turned xs ax) ys ay.0, ascending_with x xs ax in_rest ys ay.1))
 
     pub merged_ascending : (xs ys : List E) → IsAscending key cmp xs → IsAscending key cmp ys → IsAscending key cmp (merged (by_key key cmp) join xs ys)
     merged_ascending [] ys ax ay = ay
@@ -245,10 +248,11 @@ module _ {E K : Type 0} (key : E → K) (cmp : K → K → Ordering) (total : Is
         MapBelow key cmp B (x ∷ xs) (y ∷ ys) → B x y × MapBelow key cmp B xs ys
     below_same x y xs ys h ax below =
         let keys : key x ≡ key y = one (key x) (key y) h in
-        let there : find key cmp (y ∷ ys) (key x) ≡ Some y = subst (λ k. find key cmp (y ∷ ys) k ≡ Some y) (sym keys) (itself_found y ys) in
-        (subst (λ m. BelowFromNone B m (Some y)) (itself_found x xs) (subst (λ n. BelowFromNone B (find key cmp (x ∷ xs) (key x)) n) there (below (key x))),
-         λ k. rest_below x y (is_eq (cmp (key x) k)) (is_eq (cmp (key y) k)) (find key cmp xs k) (find key cmp ys k)
-            (ap (λ v. is_eq (cmp v k)) keys) (below k) (absent_at k (key x) xs ax))
+        let there : find key cmp (y ∷ ys) (key x) ≡ Some y = subst (λ k. find key cmp (y ∷ ys) k ≡ Some y) (sym keys) (itself_found y ys) in (
+          subst (λ m. BelowFromNone B m (Some y)) (itself_found x xs) (subst (λ n. BelowFromNone B (find key cmp (x ∷ xs) (key x)) n) there (below (key x))),
+          λ k. rest_below x y (is_eq (cmp (key x) k)) (is_eq (cmp (key y) k)) (find key cmp xs k) (find key cmp ys k)
+              (ap (λ v. is_eq (cmp v k)) keys) (below k) (absent_at k (key x) xs ax),
+        )
 
     pub same_below : (x y : E) (xs ys : List E) → cmp (key x) (key y) ≡ Equal → B x y → MapBelow key cmp B xs ys → MapBelow key cmp B (x ∷ xs) (y ∷ ys)
     same_below x y xs ys h first below k =
@@ -306,11 +310,11 @@ module _ {E K : Type 0} (key : E → K) (cmp : K → K → Ordering) (total : Is
         decided (cmp (key x) (key y)) (MapBelow key cmp B (x ∷ xs) (y ∷ ys)) _ _ _
         (λ h. (λ no_test. cc, λ b. absurd (first_not_below B x y xs ys h ay.0 b)))
         (λ h.
-            let both = Decides-and (below x y) (covered (by_key key cmp) below xs ys) (tells x y fx fy.0) (rest ys (ay.1, fy.1)) in
-            (λ t. let p = both.0 t in same_below B x y xs ys h p.0 p.1, λ b. both.1 (below_same B x y xs ys h ax b)))
+        let both = Decides-and (below x y) (covered (by_key key cmp) below xs ys) (tells x y fx fy.0) (rest ys (ay.1, fy.1)) in
+        (λ t. let p = both.0 t in same_below B x y xs ys h p.0 p.1, λ b. both.1 (below_same B x y xs ys h ax b)))
         (λ h.
-            let later = covered_with x xs ax fx rest ys (ay.1, fy.1) in
-            (λ t. skipped B x y xs ys h ax (later.0 t), λ b. later.1 (below_skipped B x y xs ys h ax b)))
+        let later = covered_with x xs ax fx rest ys (ay.1, fy.1) in
+        (λ t. skipped B x y xs ys h ax (later.0 t), λ b. later.1 (below_skipped B x y xs ys h ax b)))
 
     pub covered_tells : (xs ys : List E) → IsMap key cmp Form xs → IsMap key cmp Form ys → Decides (covered (by_key key cmp) below xs ys) (MapBelow key cmp B xs ys)
     covered_tells [] ys mx my = (λ h k. tt, λ h. refl)

@@ -71,7 +71,11 @@ impl Keyed for (NodeNo, HeapFact) {
         Ok((self.0, self.1.share()?))
     }
 
-    fn join(&self, alloc: Global, other: &(NodeNo, HeapFact)) -> Result<(NodeNo, HeapFact), Memory> {
+    fn join(
+        &self,
+        alloc: Global,
+        other: &(NodeNo, HeapFact),
+    ) -> Result<(NodeNo, HeapFact), Memory> {
         Ok((self.0, join_facts(alloc, &self.1, &other.1)?))
     }
 }

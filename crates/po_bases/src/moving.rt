@@ -47,7 +47,12 @@ fn moved_entry(entry: &Entry, by: &Interval, grain: u8) -> Entry
     }
 }
 
-fn moved_entries(alloc: Global, entries: &[Entry], by: &Interval, grain: u8) -> Result<List<Entry>, Memory>
+fn moved_entries(
+    alloc: Global,
+    entries: &[Entry],
+    by: &Interval,
+    grain: u8,
+) -> Result<List<Entry>, Memory>
     requires { All (λ e. SumsFit e.off by.now) entries.now }
     ensures { IfOk result (λ list. list ≡ bases.moved_entries by.now grain entries.now) }
 {
@@ -72,7 +77,12 @@ fn some_known(entries: List<Entry>) -> Result<Option<Bases>, Memory>
 /// The bases of a pointer that is moved by a number of `by` times the factor whose power of two `grain` is, at most
 /// 16: each offset moves, and the lesser grain stays. Null isn't moved and is left out; `None` where there is no
 /// other base.
-pub fn move_bases(alloc: Global, a: &Bases, by: &Interval, grain: u8) -> Result<Option<Bases>, Memory>
+pub fn move_bases(
+    alloc: Global,
+    a: &Bases,
+    by: &Interval,
+    grain: u8,
+) -> Result<Option<Bases>, Memory>
     requires { CanMove a.now by.now }
     ensures { IfOk result (λ moved. moved ≡ bases.move_bases a.now by.now grain) }
 {

@@ -1,15 +1,17 @@
 use crate::sample::{bases_of, between, entry};
 use po_arith::Interval;
-use po_base::GlobalNo;
-use po_base::NodeNo;
-use po_base::SlotNo;
+use po_base::{GlobalNo, NodeNo, SlotNo};
 use po_bases::{Base, Bases, Entry, join_bases, move_bases};
 use std::test::Fail;
 
 const P0: Base = Base::Param(0);
+
 const P1: Base = Base::Param(1);
+
 const S0: Base = Base::Slot(SlotNo(0));
+
 const G0: Base = Base::Global(GlobalNo(0));
+
 const H0: Base = Base::Heap(NodeNo(0));
 
 #[test]
@@ -78,6 +80,9 @@ fn offsets_without_ends_are_joined(rt: HostRuntime) -> Result<(), Fail> {
 #[test]
 fn unknown_bases_stay_unknown(rt: HostRuntime) -> Result<(), Fail> {
     let alloc = rt.alloc();
-    assert_eq!(rt; move_bases(alloc, &Bases::Unknown, &between(1, 2), 1)?, Some(Bases::Unknown));
+    assert_eq!(rt;
+        move_bases(alloc, &Bases::Unknown, &between(1, 2), 1)?,
+        Some(Bases::Unknown)
+    );
     Ok(())
 }

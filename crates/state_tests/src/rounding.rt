@@ -16,7 +16,12 @@ fn thresholds(alloc: Global, numbers: &[i128]) -> Result<Thresholds, Fail> {
 }
 
 /// The state with one register related to an argument by `lo..hi`, and with the same offsets from an argument.
-fn sample(alloc: Global, rel: Option<(u32, Interval)>, off: Interval, size: u64) -> Result<AState, Fail> {
+fn sample(
+    alloc: Global,
+    rel: Option<(u32, Interval)>,
+    off: Interval,
+    size: u64,
+) -> Result<AState, Fail> {
     let mut value = related(rel);
     let mut place = entry(Base::Param(0), 0, 0, 1);
     place.off = off;
@@ -35,7 +40,16 @@ fn ends_are_rounded(rt: HostRuntime) -> Result<(), Fail> {
         (between(0, 10), true, between(0, 10), 100_000, 100_000),
         // elsewhere each small number is a threshold
         (between(-7, 11), false, between(-7, 11), 65_535, 65_535),
-        (between(-65_537, 65_537), false, Interval { lo: None, hi: Some(100_000) }, 70_000, 65_536),
+        (
+            between(-65_537, 65_537),
+            false,
+            Interval {
+                lo: None,
+                hi: Some(100_000),
+            },
+            70_000,
+            65_536,
+        ),
         // past all of them an end is missing, and so is a relation without ends
         (between(-101, 100_001), true, open, 100_001, 100_000),
         (between(5, 6), true, between(1, 10), 9, 1),
@@ -43,7 +57,11 @@ fn ends_are_rounded(rt: HostRuntime) -> Result<(), Fail> {
     for (ends, head, want, size, least) in rows.iter() {
         let state = sample(alloc, Some((2, *ends)), *ends, *size)?;
         let rounded = round_state(alloc, &state, &th, *head)?;
-        let rel = if *want == open { None } else { Some((2, *want)) };
+        let rel = if *want == open {
+            None
+        } else {
+            Some((2, *want))
+        };
         assert_eq!(rt; rounded, sample(alloc, rel, *want, *least)?);
         assert!(rt; below_state(&state, &rounded));
     }
@@ -54,7 +72,10 @@ fn ends_are_rounded(rt: HostRuntime) -> Result<(), Fail> {
 fn bottom_and_unknown_stay(rt: HostRuntime) -> Result<(), Fail> {
     let alloc = rt.alloc();
     let th = thresholds(alloc, &[0])?;
-    assert_eq!(rt; round_state(alloc, &AState::Bottom, &th, true)?, AState::Bottom);
+    assert_eq!(rt;
+        round_state(alloc, &AState::Bottom, &th, true)?,
+        AState::Bottom
+    );
     let mut value = related(None);
     value.bases = Bases::Unknown;
     let state = state_of(alloc, value, None, no_block(alloc)?, true)?;

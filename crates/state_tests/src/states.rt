@@ -1,10 +1,53 @@
-use crate::sample::{bases_of, between, bytes, entry, no_block, one_block, related, state_of};
-use po_arith::Interval;
+use crate::sample::{bases_of, bytes, entry, far, near, no_block, one_block, related, state_of};
 use po_astate::{AState, AValue, below_state};
-use po_base::SharedList;
-use po_bases::{Base, Filled};
+use po_base::{Memory, NodeNo, SharedList};
+use po_bases::{Base, Filled, HeapFact};
 use po_interval::Members;
+use std::alloc::Global;
+use std::process::Abort;
 use std::test::Fail;
+
+/// The one is below the other, and the other isn't below the one.
+fn compared(rt: &impl Abort, lesser: &AState, greater: &AState) {
+    assert!(rt; below_state(lesser, greater));
+    assert!(rt; !below_state(greater, lesser));
+}
+
+fn values_compared(
+    rt: &impl Abort,
+    alloc: Global,
+    lesser: AValue,
+    greater: AValue,
+) -> Result<(), Memory> {
+    let lesser = state_of(alloc, lesser, None, no_block(alloc)?, false)?;
+    let greater = state_of(alloc, greater, None, no_block(alloc)?, false)?;
+    compared(rt, &lesser, &greater);
+    Ok(())
+}
+
+fn slots_compared(
+    rt: &impl Abort,
+    alloc: Global,
+    lesser: Option<Filled>,
+    greater: Option<Filled>,
+) -> Result<(), Memory> {
+    let lesser = state_of(alloc, near(0), lesser, no_block(alloc)?, false)?;
+    let greater = state_of(alloc, near(0), greater, no_block(alloc)?, false)?;
+    compared(rt, &lesser, &greater);
+    Ok(())
+}
+
+fn blocks_compared(
+    rt: &impl Abort,
+    alloc: Global,
+    lesser: SharedList<(NodeNo, HeapFact)>,
+    greater: SharedList<(NodeNo, HeapFact)>,
+) -> Result<(), Memory> {
+    let lesser = state_of(alloc, near(0), None, lesser, false)?;
+    let greater = state_of(alloc, near(0), None, greater, false)?;
+    compared(rt, &lesser, &greater);
+    Ok(())
+}
 
 #[test]
 fn a_register_takes_at_most_256_bytes(rt: HostRuntime) {
@@ -12,72 +55,77 @@ fn a_register_takes_at_most_256_bytes(rt: HostRuntime) {
 }
 
 #[test]
-fn states_are_compared(rt: HostRuntime) -> Result<(), Fail> {
+fn an_unreached_node_is_below_all(rt: HostRuntime) -> Result<(), Fail> {
     let alloc = rt.alloc();
-    let plain = state_of(alloc, related(None), None, no_block(alloc)?, false)?;
-    assert!(rt; below_state(&AState::Bottom, &plain));
-    assert!(rt; !below_state(&plain, &AState::Bottom));
-    // a relation to another argument, and a wider one
-    let near = state_of(alloc, related(Some((0, between(0, 1)))), None, no_block(alloc)?, false)?;
-    let wide = state_of(alloc, related(Some((0, Interval { lo: Some(0), hi: None }))), None, no_block(alloc)?, false)?;
-    let other = state_of(alloc, related(Some((1, between(0, 1)))), None, no_block(alloc)?, false)?;
-    assert!(rt; below_state(&near, &wide));
-    assert!(rt; !below_state(&wide, &near));
-    assert!(rt; !below_state(&near, &other));
-    assert!(rt; below_state(&other, &plain));
-    assert!(rt; !below_state(&plain, &other));
-    // a node that isn't there is below all, and so is a slot that isn't entered
-    let block = state_of(alloc, related(None), None, one_block(alloc, 5, true, 8)?, false)?;
-    let dead = state_of(alloc, related(None), None, one_block(alloc, 5, false, 8)?, false)?;
-    let small = state_of(alloc, related(None), None, one_block(alloc, 5, true, 7)?, false)?;
-    assert!(rt; below_state(&plain, &block));
-    assert!(rt; !below_state(&block, &plain));
-    assert!(rt; below_state(&block, &dead));
-    assert!(rt; !below_state(&dead, &block));
-    assert!(rt; below_state(&block, &small));
-    assert!(rt; !below_state(&small, &block));
-    let entered = state_of(alloc, related(None), Some(bytes(alloc, &[0, 4095])?), no_block(alloc)?, false)?;
-    let all = state_of(alloc, related(None), Some(Filled::All), no_block(alloc)?, false)?;
-    assert!(rt; below_state(&plain, &entered));
-    assert!(rt; !below_state(&entered, &plain));
-    assert!(rt; below_state(&all, &entered));
-    assert!(rt; !below_state(&entered, &all));
-    // what may have been freed
-    let freed = state_of(alloc, related(None), None, no_block(alloc)?, true)?;
-    assert!(rt; below_state(&plain, &freed));
-    assert!(rt; !below_state(&freed, &plain));
+    let state = state_of(alloc, near(0), None, no_block(alloc)?, false)?;
+    compared(&rt, &AState::Bottom, &state);
+    let freed = state_of(alloc, near(0), None, no_block(alloc)?, true)?;
+    compared(&rt, &state, &freed);
     Ok(())
 }
 
 #[test]
-fn values_are_compared_part_by_part(rt: HostRuntime) -> Result<(), Fail> {
+fn relations_are_compared(rt: HostRuntime) -> Result<(), Fail> {
     let alloc = rt.alloc();
-    let top = state_of(alloc, related(None), None, no_block(alloc)?, false)?;
+    values_compared(&rt, alloc, near(0), related(None))?;
+    let first = state_of(alloc, near(0), None, no_block(alloc)?, false)?;
+    let second = state_of(alloc, near(1), None, no_block(alloc)?, false)?;
+    assert!(rt; !below_state(&first, &second));
+    let third = state_of(alloc, far(0), None, no_block(alloc)?, false)?;
+    assert!(rt; !below_state(&first, &third));
+    Ok(())
+}
+
+#[test]
+fn flags_are_compared(rt: HostRuntime) -> Result<(), Fail> {
+    let alloc = rt.alloc();
     let mut unset = related(None);
     unset.set = false;
-    let unset = state_of(alloc, unset, None, no_block(alloc)?, false)?;
+    values_compared(&rt, alloc, related(None), unset)?;
     let mut nonzero = related(None);
     nonzero.nonzero = true;
-    let nonzero = state_of(alloc, nonzero, None, no_block(alloc)?, false)?;
+    values_compared(&rt, alloc, nonzero, related(None))?;
+    Ok(())
+}
+
+#[test]
+fn members_and_bases_are_compared(rt: HostRuntime) -> Result<(), Fail> {
+    let alloc = rt.alloc();
     let mut few = related(None);
     few.members = Members::Few(SharedList::from_slice(alloc, &[1, 2, 3, 4, 5, 6, 7, 8])?);
-    let few = state_of(alloc, few, None, no_block(alloc)?, false)?;
-    let mut placed = related(None);
-    placed.bases = bases_of(alloc, &[entry(Base::Param(0), 0, 0, 16)])?;
-    let placed = state_of(alloc, placed, None, no_block(alloc)?, false)?;
+    values_compared(&rt, alloc, few, related(None))?;
+    let mut fine = related(None);
+    fine.bases = bases_of(alloc, &[entry(Base::Param(0), 0, 0, 16)])?;
     let mut coarse = related(None);
     coarse.bases = bases_of(alloc, &[entry(Base::Param(0), 0, 16, 8)])?;
-    let coarse = state_of(alloc, coarse, None, no_block(alloc)?, false)?;
-    let rows = [
-        (&top, &unset),
-        (&nonzero, &top),
-        (&few, &top),
-        (&placed, &top),
-        (&placed, &coarse),
-    ];
-    for (lesser, greater) in rows.iter() {
-        assert!(rt; below_state(*lesser, *greater));
-        assert!(rt; !below_state(*greater, *lesser));
-    }
+    values_compared(&rt, alloc, fine, coarse)?;
+    Ok(())
+}
+
+#[test]
+fn slots_are_compared(rt: HostRuntime) -> Result<(), Fail> {
+    let alloc = rt.alloc();
+    slots_compared(&rt, alloc, None, Some(Filled::All))?;
+    let some = bytes(alloc, &[0, 4095])?;
+    slots_compared(&rt, alloc, Some(Filled::All), Some(some))?;
+    Ok(())
+}
+
+#[test]
+fn blocks_are_compared(rt: HostRuntime) -> Result<(), Fail> {
+    let alloc = rt.alloc();
+    blocks_compared(&rt, alloc, no_block(alloc)?, one_block(alloc, 5, true, 8)?)?;
+    blocks_compared(
+        &rt,
+        alloc,
+        one_block(alloc, 5, true, 8)?,
+        one_block(alloc, 5, false, 8)?,
+    )?;
+    blocks_compared(
+        &rt,
+        alloc,
+        one_block(alloc, 5, true, 8)?,
+        one_block(alloc, 5, true, 7)?,
+    )?;
     Ok(())
 }
