@@ -1,0 +1,11 @@
+pub mod Each
+pub mod Values
+pub mod ValuesLaws
+pub mod States
+pub mod StatesLaws
+pub mod Rounding
+pub mod RoundingLaws
+pub mod Ranks
+pub mod Heights
+pub mod Proper
+pub mod ProperRanks

@@ -1,0 +1,10 @@
+use Rattle.std.proofs.Common.{◌∙◌, inl, inr}
+use Rattle.po_bases.proofs.Ends.{has_all_ends}
+use Rattle.po_bases.proofs.common.has_all.Goals as goal
+use Rattle.po_bases.proofs.common.has_all.Goals.{then-loop-i-test+else-j-ys, else-loop-i-test}
+
+pub returns : goal.returns
+returns c =
+    has_all_ends c.args.xs.now c.args.ys.now c.loop-i.i c.loop-i.j c.loop-i.invariant.second
+    (elim c.loop-i-test.branch [ then-loop-i-test+else-j-ys w ↦ inr w.if-j-ys.false | else-loop-i-test w ↦ inl w.loop-i-test.false ])
+    ∙ c.loop-i.invariant.rest

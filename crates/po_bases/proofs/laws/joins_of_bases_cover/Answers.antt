@@ -1,0 +1,8 @@
+use Rattle.po_bases.specs.Cover.{join_allows_first, join_allows_second}
+use Rattle.po_bases.proofs.laws.joins_of_bases_cover.Goals as goal
+
+pub returns : goal.returns
+returns c = record {
+  first = λ value a b p. join_allows_first value a b p;
+  second = λ value a b p. join_allows_second value a b p;
+}

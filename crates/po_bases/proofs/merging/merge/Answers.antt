@@ -1,0 +1,11 @@
+use Rattle.std.proofs.Common.{◌∙◌, inl, inr}
+use Rattle.po_bases.proofs.Ends.{merge_ends}
+use Rattle.po_bases.proofs.merging.merge.Goals as goal
+use Rattle.po_bases.proofs.merging.merge.Goals.{then-loop-i-test+else-j-ys, else-loop-i-test}
+
+pub returns : goal.returns
+returns g c =
+    rw (c.in_ok-append-2.ensures, c.in_ok-append.ensures)
+    (merge_ends g.E.Keyed.key_order g.E.Keyed.joined c.loop-i.list c.args.xs.now c.args.ys.now c.loop-i.i c.loop-i.j
+    (elim c.loop-i-test.branch [ then-loop-i-test+else-j-ys w ↦ inr w.if-j-ys.false | else-loop-i-test w ↦ inl w.loop-i-test.false ])
+    ∙ c.loop-i.invariant.rest)

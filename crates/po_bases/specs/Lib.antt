@@ -1,0 +1,9 @@
+pub mod General
+pub mod Maps
+pub mod Intervals
+pub mod Base
+pub mod Bases
+pub mod BasesLaws
+pub mod Cover
+pub mod Filled
+pub mod FilledLaws
