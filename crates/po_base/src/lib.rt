@@ -11,8 +11,6 @@ mod operators;
 mod ord_list;
 mod roomy;
 mod spot;
-#[cfg(test)]
-mod tests;
 mod text;
 mod token;
 

@@ -3,6 +3,5 @@ pub mod Calls
 pub mod Empty
 pub mod Parts
 pub mod Answers
-pub mod Sample
 pub mod Alone
 pub mod Indexed

@@ -15,10 +15,6 @@ mod next;
 mod parts;
 mod places;
 mod report;
-#[cfg(test)]
-mod sample;
-#[cfg(test)]
-mod tests;
 mod ticket;
 
 pub use drain::solve_alone;
