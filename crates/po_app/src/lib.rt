@@ -14,8 +14,6 @@ mod rule;
 mod solve;
 mod status;
 mod tally;
-#[cfg(test)]
-mod tests;
 mod top;
 mod verdict;
 mod words;

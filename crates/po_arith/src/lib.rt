@@ -12,8 +12,6 @@ mod laws;
 mod range;
 mod shifts;
 mod target;
-#[cfg(test)]
-mod tests;
 mod types;
 
 pub use bitwise::{bits_and, bits_or, bits_xor};

@@ -13,8 +13,6 @@ mod out;
 mod roomy;
 mod shared_list;
 mod spot;
-#[cfg(test)]
-mod tests;
 mod text;
 mod token;
 

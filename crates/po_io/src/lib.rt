@@ -14,8 +14,6 @@ mod mem_sink;
 mod reading;
 mod sink;
 mod std_sink;
-#[cfg(test)]
-mod tests;
 mod writing;
 
 pub use count::count_rises;

@@ -3,7 +3,6 @@ pub mod Calls
 pub mod Empty
 pub mod Parts
 pub mod Answers
-pub mod Sample
 pub mod Hands
 pub mod Indexed
 pub mod Verdicts

@@ -14,11 +14,7 @@ mod next;
 mod parts;
 mod places;
 mod report;
-#[cfg(test)]
-mod sample;
 mod settling;
-#[cfg(test)]
-mod tests;
 mod ticket;
 
 pub use ledger::Ledger;

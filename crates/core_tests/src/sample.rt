@@ -1,9 +1,9 @@
 ghost use Rattle.std.specs.Prelude.{◌≡◌, IfOk};
-ghost use Rattle.po_ledger.specs.Sample.{verdict_by};
+ghost use Rattle.core_tests.specs.Sample.{verdict_by};
 
-use crate::naming::Naming;
 use po_base::{FileNo, FunNo, List, Memory, NodeNo};
 use po_core::{Obl, Rulebook, Verdict};
+use po_ledger::Naming;
 use std::alloc::Global;
 
 /// A rulebook in small: three functions in two files that call each other in a circle. The first asks two things by
@@ -14,13 +14,13 @@ pub(crate) struct Sample;
 pub(crate) struct OfSample;
 
 impl Naming<u8, u8, u32> for OfSample {
-    ghost use Rattle.po_ledger.specs.Sample.{sample};
+    ghost use Rattle.core_tests.specs.Sample.{sample};
 
     ghost book = { sample };
 }
 
 impl Rulebook for Sample {
-    ghost use Rattle.po_ledger.specs.Sample.{sample, sample_lawful};
+    ghost use Rattle.core_tests.specs.Sample.{sample, sample_lawful};
 
     type Pred = u8;
 

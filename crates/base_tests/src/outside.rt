@@ -1,8 +1,8 @@
-use crate::{
+use po_base::{List, Text};
+use po_io::{
     DirFiles, Failed, Files, MemFiles, MemSink, ReadFail, Sink, StdSink, WriteFail, read_file,
     write_all,
 };
-use po_base::{List, Text};
 use std::alloc::Global;
 use std::fmt::Display;
 use std::process::Abort;

@@ -1,4 +1,4 @@
-use crate::{
+use po_arith::{
     IntType, Interval, Range, bits_and, bits_or, bits_xor, div_trunc, fits, join_interval, limits,
     rem_trunc, shift_left, shift_right, wrap,
 };
