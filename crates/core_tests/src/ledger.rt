@@ -1,7 +1,8 @@
 use crate::sample::{OfSample, Sample};
 use po_base::{FileNo, FunNo, NodeNo};
 use po_core::{Cause, Event, Obl, Verdict};
-use po_ledger::{Ledger, Next, ReportFail, Ticket, solve_alone};
+use po_ledger::{Ledger, Next, ReportFail, Ticket};
+use po_worker::solve_alone;
 use std::alloc::Global;
 use std::test::Fail;
 
