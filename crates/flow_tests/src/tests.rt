@@ -64,7 +64,14 @@ fn least_tables(rt: HostRuntime) -> Result<(), Failed> {
         },
         // A loop of nodes 2 and 3 in a loop of nodes 1 to 4.
         Row {
-            exits: &[(1, NONE), (2, 5), (3, 4), (2, NONE), (1, NONE), (NONE, NONE)],
+            exits: &[
+                (1, NONE),
+                (2, 5),
+                (3, 4),
+                (2, NONE),
+                (1, NONE),
+                (NONE, NONE),
+            ],
             gains: &[0, 0, 0, 0, 1, 0],
             first: 0,
             cap: 3,
@@ -109,7 +116,9 @@ fn least_tables(rt: HostRuntime) -> Result<(), Failed> {
         },
     ];
     for row in &rows {
-        let flow = sample_of(row.exits, row.gains, &[], row.first, row.cap, Fault::Never).ok_or("row")?;
+        let flow = sample_of(row.exits, row.gains, &[], row.first, row.cap, Fault::Never).ok_or(
+            "row",
+        )?;
         let table = least_table(alloc, &flow)?;
         assert_eq!(rt; table.into_list().as_slice(), row.states);
         let before = flow.evaluated.get();
