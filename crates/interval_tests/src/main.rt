@@ -2,7 +2,7 @@
 //!
 //! `add i32 1 5 -3 10` asks for the interval of the sums of numbers of 1..5 and of -3..10 at the type of 32 bits with a sign; `*` is a
 //! missing end. `neg`, `not` and `conv` take one interval, `round head 3 9 0 4 8` and `round node ..` an interval and then thresholds,
-//! `join` and `within` two lists of members, parted by `/`, where `any` stands for any number.
+//! `join` and `within` two lists of members, parted by `/`, and `share` one list, where `any` stands for any number.
 #![tactic(auto)]
 
 mod questions;

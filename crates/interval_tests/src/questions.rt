@@ -99,6 +99,17 @@ fn answer_members(rt: &(impl Print + AllocGlobal), verb: &str, words: &[&str]) -
     }
 }
 
+/// Writes members that were shared.
+fn answer_share(rt: &(impl Print + AllocGlobal), words: &[&str]) -> io::Result<()> {
+    let Ok(a) = members(rt.alloc(), words) else {
+        return println!(rt; "no memory");
+    };
+    match a.share() {
+        Err(Memory) => println!(rt; "no memory"),
+        Ok(b) => show_members(rt, &b),
+    }
+}
+
 /// Answers a question of an interval and thresholds.
 fn answer_round(rt: &(impl Print + AllocGlobal), words: &[&str]) -> io::Result<()> {
     let [place, lo, hi, more @ ..] = words else {
@@ -136,6 +147,7 @@ pub(crate) fn answer(rt: &(impl Print + AllocGlobal), line: &str) -> io::Result<
     match words.as_slice() {
         ["join", more @ ..] => answer_members(rt, "join", more),
         ["within", more @ ..] => answer_members(rt, "within", more),
+        ["share", more @ ..] => answer_share(rt, more),
         ["round", more @ ..] => answer_round(rt, more),
         [verb, more @ ..] => answer_type(rt, verb, more),
         [] => println!(rt; ""),

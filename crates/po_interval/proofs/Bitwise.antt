@@ -1,21 +1,20 @@
 -- Bitwise operations keep the numbers of a type, and numbers that aren't negative between 0 and what holds them.
-use Rattle.std.proofs.Common.{◌≡◌, ◌≤◌, ◌<◌, ◌+◌, ◌-◌, ◌*◌, ◌/◌, ◌%◌, ◌^◌, ℕ, zero, suc, Bool, true, false, cond, arith, sym, refl, ap, ◌∙◌, subst, inl, inr, max, min, FitsSigned}
-use Rattle.std.specs.Prelude.{◌&&◌, ℤ, pos, negsuc, neg_ℤ, ◌≤ℤ◌, ◌<ℤ◌, ◌+ℤ◌, ◌⊎◌, Option, Some, None, int_le, unsigned_abs, bit_and, bit_or, bit_xor}
-use Rattle.std.specs.Int.{int_min, int_max, bit_at, int_bit_and, int_bit_or, int_bit_xor, w128, cast_unsigned, leading_zeros}
+use Rattle.std.proofs.Common.{◌≡◌, ◌≤◌, ◌<◌, ◌+◌, ◌-◌, ◌*◌, ◌/◌, ◌%◌, ◌^◌, ℕ, zero, suc, Bool, true, false, cond, arith, sym, refl, ap, ◌∙◌, subst, inl, inr, min, FitsSigned}
+use Rattle.std.specs.Prelude.{ℤ, pos, negsuc, neg_ℤ, ◌≤ℤ◌, ◌<ℤ◌, ◌+ℤ◌, ◌⊎◌, Some, int_le, bit_and}
+use Rattle.std.specs.Int.{int_min, bit_at, int_bit_and, w128, cast_unsigned, leading_zeros}
 use Rattle.std.proofs.lemmas.Int.{ints, clamps, to_z_pos}
-use Rattle.std.proofs.lemmas.Bool.{and_parts}
-use Rattle.std.proofs.lemmas.Nat.{and_le_l, and_le_r, or_lt, xor_lt, pow_pos, pow-add, leading_length}
+use Rattle.std.proofs.lemmas.Nat.{and_le_l, and_le_r, pow_pos, pow-add, leading_length}
 use Rattle.std.proofs.lemmas.Nat.Bits.{bit_at_above, same_from_bits}
-use Rattle.std.proofs.Math.Nat.{pow-suc, div-div-eq-div-mul, div-lt_iff_lt-mul, mod-eq_of_lt, div-eq_of_lt, lt-div-mul-add, zero-div}
+use Rattle.std.proofs.Math.Nat.{pow-suc, div-div-eq-div-mul, lt-div-mul-add}
 use Rattle.po_arith.specs.declared.int_type.IntType.{IntType}
 use Rattle.po_arith.specs.declared.range.Range.{Range}
 use Rattle.po_arith.specs.Types.{IsIntType, IsWidth, IsOfType, least, greatest}
-use Rattle.po_arith.specs.Bits.{bit, IsAnd, IsOr, IsXor}
-use Rattle.po_arith.proofs.BitByBit.{and_is, or_is, xor_is}
-use Rattle.po_interval.specs.Ranges.{range, Spans, all, conjunctions, disjunctions, filled, bits_of}
+use Rattle.po_arith.specs.Bits.{bit}
+use Rattle.po_arith.proofs.BitByBit.{and_is}
+use Rattle.po_interval.specs.Ranges.{range, Spans, all, conjunctions, bits_of}
 use Rattle.po_interval.proofs.Ends.{le_tells}
 use Rattle.po_interval.proofs.Corners.{pow_up}
-use Rattle.po_interval.proofs.Covers.{le_false, least_unsigned, greatest_unsigned}
+use Rattle.po_interval.proofs.Covers.{least_unsigned}
 
 -- the numbers of the types lie between -2 to the 63 and 2 to the 64
 pub record IsSmall (t : IntType) : Type 0 where
@@ -51,7 +50,8 @@ below_from_bits n k none =
     let zero_bits = λ (i : ℕ). ap (λ (m : ℕ). m % 2) (div-div-eq-div-mul n (2 ^ k) (2 ^ i) ∙ ap (λ (m : ℕ). n / m) (sym (pow-add 2 k i))) ∙ none (k + i) (omega arith) ∙ sym (bit_at_above 0 0 i (omega arith) (omega arith)) in
     let gone : n / 2 ^ k ≡ 0 = same_from_bits (n / 2 ^ k) 0 zero_bits in
     let rest = lt-div-mul-add {a = n} {b = 2 ^ k} (pow_pos k) in
-    subst (λ (m : ℕ). n < m * 2 ^ k + 2 ^ k) gone rest
+    let less : n < 0 * 2 ^ k + 2 ^ k = subst (λ (m : ℕ). n < m * 2 ^ k + 2 ^ k) gone rest in
+    omega arith
 
 below_power : (m : ℕ) → m < 2 ^ m
 below_power zero = omega arith
@@ -162,8 +162,8 @@ pub filled_holds : (v : ℤ) → FitsSigned w128 v → pos 0 ≤ℤ v → (v <�
 filled_holds (pos n) fits some =
     let size = fits.sfits in
     let found = leading_length 128 n (omega arith) in
-    let same : 128 - leading_zeros w128 n ≡ found.0 = omega (arith, found.1.0) in
-    let held = found.1.1 in
-    let least = found.1.2 in
+    let same : 128 - leading_zeros w128 n ≡ found.0 = omega (arith, found.1) in
+    let held = found.2 in
+    let least = found.3 in
     rw same (omega (arith, ints), omega (arith, ints))
 filled_holds (negsuc n) fits some = absurd (omega (arith, ints))

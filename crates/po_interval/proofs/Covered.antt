@@ -1,7 +1,6 @@
 -- Every result lies in the interval of results.
-use Rattle.std.proofs.Common.{◌≡◌, ◌≤◌, ◌<◌, ℕ, Bool, true, false, cond, arith, sym, refl, ap, ◌∙◌, subst, inl, inr}
-use Rattle.std.specs.Prelude.{not, ◌&&◌, ℤ, pos, neg_ℤ, ◌≤ℤ◌, ◌<ℤ◌, ◌+ℤ◌, ◌-ℤ◌, ◌*ℤ◌, ◌⊎◌, ◌≢◌, ◌-◌, Option, Some, None, int_le, int_lt, int_div, int_rem}
-use Rattle.std.specs.Int.{int_min, int_max, int_bit_and, int_bit_or, int_bit_xor, w128}
+use Rattle.std.proofs.Common.{◌≡◌, Bool, true, false, cond, arith, refl, ap, subst}
+use Rattle.std.specs.Prelude.{◌&&◌, ℤ, pos, ◌≤ℤ◌, ◌≢◌, ◌-◌, Option, Some, None, int_le}
 use Rattle.std.specs.Ordering.{int_eq}
 use Rattle.std.proofs.lemmas.Int.{ints, clamps}
 use Rattle.std.proofs.lemmas.Bool.{and_parts, not-true, both_ways}
@@ -15,7 +14,7 @@ use Rattle.po_arith.specs.declared.interval.Interval.{Interval}
 use Rattle.po_arith.specs.declared.range.Range.{Range}
 use Rattle.po_arith.specs.Types.{IsIntType, IsOfType, least, greatest}
 use Rattle.po_arith.specs.Hull.{IsIn}
-use Rattle.po_interval.specs.Ranges.{range, interval, Spans, Holds, low_cut, high_cut, some_range, cut, part, counts, as_interval, sums, differences, products, quotients, remainders, conjunctions, disjunctions, shifted_up, shifted_down, shifts_up, shifts_down, outcomes, takes_count, second, settled, of_parts, complement_from, un_outcomes, of_part}
+use Rattle.po_interval.specs.Ranges.{range, Spans, Holds, low_cut, high_cut, some_range, cut, part, counts, sums, differences, products, quotients, remainders, conjunctions, disjunctions, shifts_up, shifts_down, outcomes, takes_count, second, of_parts, un_outcomes, of_part}
 use Rattle.po_interval.specs.Results.{given, conv, conv_all, exact, truth, is_count, can_divide, un_exact, BinCovers, UnCovers}
 use Rattle.po_interval.proofs.Ends.{le_tells}
 use Rattle.po_interval.proofs.Covers.{some_same, given_some, cut_spans, settled_covers, sums_cover, differences_cover, products_cover, quotients_cover, remainders_cover, shifts_up_cover, shifts_down_cover}
@@ -97,14 +96,14 @@ low_cut_low low None = omega (arith, ints)
 low_cut_low low (Some v) = omega (arith, ints, clamps)
 
 pub cut_low : (low high : ℤ) (a : Interval) (s : Range) → cut low high a ≡ Some s → low ≤ℤ s.lo
-cut_low low high a s same = let is = (some_range_is _ _ s same).0 in let above = low_cut_low low a.lo in omega (arith, ints)
+cut_low low high a s same = let is = (some_range_is (low_cut low a.lo) (high_cut high a.hi) s same).0 in let above = low_cut_low low a.lo in omega (arith, ints)
 
 high_cut_high : (high : ℤ) (end : Option ℤ) → high_cut high end ≤ℤ high
 high_cut_high high None = omega (arith, ints)
 high_cut_high high (Some v) = omega (arith, ints, clamps)
 
 pub cut_high : (low high : ℤ) (a : Interval) (s : Range) → cut low high a ≡ Some s → s.hi ≤ℤ high
-cut_high low high a s same = let is = (some_range_is _ _ s same).1 in let below = high_cut_high high a.hi in omega (arith, ints)
+cut_high low high a s same = let is = (some_range_is (low_cut low a.lo) (high_cut high a.hi) s same).1 in let below = high_cut_high high a.hi in omega (arith, ints)
 
 second_high : (op : Op) (t : IntType) (b : Interval) (s : Range) → second op t b ≡ Some s → takes_count op ≡ false → s.hi ≤ℤ greatest t
 second_high op t b s same kind = cut_high (least t) (greatest t) b s (subst (λ (k : Bool). cond k (counts t b) (part t b) ≡ Some s) kind same)

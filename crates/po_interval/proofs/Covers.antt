@@ -1,11 +1,9 @@
 -- The interval of results covers every result.
-use Rattle.std.proofs.Common.{◌≡◌, ◌≤◌, ◌<◌, ◌+◌, ◌-◌, ◌*◌, ◌/◌, ◌%◌, ◌^◌, ℕ, zero, suc, Bool, true, false, cond, arith, sym, refl, ap, ◌∙◌, subst, inl, inr}
-use Rattle.std.specs.Prelude.{not, ◌&&◌, ℤ, pos, negsuc, neg_ℤ, ◌≤ℤ◌, ◌<ℤ◌, ◌+ℤ◌, ◌-ℤ◌, ◌*ℤ◌, ◌⊎◌, ◌≢◌, Option, Some, None, int_le, int_lt, int_div, int_rem, unsigned_abs}
+use Rattle.std.proofs.Common.{◌≡◌, ◌≤◌, ◌<◌, ◌-◌, ◌%◌, ◌^◌, ℕ, zero, suc, Bool, true, false, cond, arith, sym, refl, ap, ◌∙◌, subst, inl, inr}
+use Rattle.std.specs.Prelude.{ℤ, pos, negsuc, neg_ℤ, ◌≤ℤ◌, ◌<ℤ◌, ◌+ℤ◌, ◌-ℤ◌, ◌*ℤ◌, ◌⊎◌, ◌≢◌, Option, Some, None, int_le, int_div, int_rem, unsigned_abs}
 use Rattle.std.specs.Int.{int_min, int_max, int_rem_euclid}
-use Rattle.std.specs.Ordering.{int_eq}
 use Rattle.std.proofs.lemmas.Int.{ints, clamps, by_lt_z}
-use Rattle.std.proofs.lemmas.Bool.{and_parts, and_from, not-true, both_ways}
-use Rattle.std.proofs.lemmas.Bool.Decides.{Decides-int_eq}
+use Rattle.std.proofs.lemmas.Bool.{and_parts}
 use Rattle.std.proofs.lemmas.Nat.{div-add-mod', mod_below, pow_pos}
 use Rattle.std.proofs.Math.Nat.{mul-le-mul_left, mul-le-mul_right, mod-eq_of_lt}
 use Rattle.std.proofs.Math.IntN.{pos-*ℤ-pos}
@@ -15,9 +13,9 @@ use Rattle.po_arith.specs.declared.range.Range.{Range}
 use Rattle.po_arith.specs.Types.{IsIntType, IsOfType, least, greatest}
 use Rattle.po_arith.specs.Hull.{IsAtLeast, IsAtMost, IsIn}
 use Rattle.po_interval.specs.Within.{interval_within}
-use Rattle.po_interval.specs.Ranges.{range, interval, Spans, Holds, low_cut, high_cut, some_range, cut, whole, part, as_interval, conv_interval, sums, differences, products, negatives, positives, both, over, quotients, most_left, remainders, shifted_up, shifted_down, shifts_up, shifts_down, settled}
-use Rattle.po_interval.specs.Results.{is_between, given, modulo, conv, is_count, can_divide, ConvCovers}
-use Rattle.po_interval.proofs.Ends.{le_tells, le_since, within_tells}
+use Rattle.po_interval.specs.Ranges.{range, interval, Spans, Holds, low_cut, high_cut, some_range, cut, whole, part, as_interval, sums, differences, products, negatives, positives, both, over, quotients, most_left, remainders, shifted_up, shifted_down, shifts_up, shifts_down, settled}
+use Rattle.po_interval.specs.Results.{is_between, given, modulo, conv, ConvCovers}
+use Rattle.po_interval.proofs.Ends.{le_tells, within_tells}
 use Rattle.po_interval.proofs.Corners.{IsAny, IsPositive, IsNegative, IsNatural, corners_cover, products_go, positive_quotients_go, negative_quotients_go, shifts_go, pow_up}
 
 pub le_false : (x y : ℤ) → int_le x y ≡ false → y <ℤ x
@@ -190,12 +188,12 @@ pub remainders_cover : (r s : Range) (v w : ℤ) → Spans (Some r) v → Spans 
 remainders_cover r s v w v_in w_in some = by (int_le (pos 0) (most_left s)) refl (left_of v w some)
   where
     lows : (b : Bool) → int_le (pos 0) r.lo ≡ b → IsLeft v w (int_rem v w) → cond b (pos 0) (int_max r.lo (neg_ℤ (most_left s))) ≤ℤ int_rem v w
-    lows true test is = let up = le_tells (pos 0) r.lo test in elim is.low [ | inl some ↦ some | inr less ↦ absurd (omega (arith, ints)) ]
-    lows false test is = let down = le_false (pos 0) r.lo test in elim is.low [ | inl some ↦ elim is.above [ | inl one ↦ omega (arith, ints, clamps) | inr one ↦ omega (arith, ints, clamps) ] | inr less ↦ elim is.above [ | inl one ↦ omega (arith, ints, clamps) | inr one ↦ omega (arith, ints, clamps) ] ]
+    lows true test is = let up = le_tells (pos 0) r.lo test in elim is.low [ inl some ↦ some | inr less ↦ absurd (omega (arith, ints)) ]
+    lows false test is = let down = le_false (pos 0) r.lo test in elim is.low [ inl some ↦ elim is.above [ inl one ↦ omega (arith, ints, clamps) | inr one ↦ omega (arith, ints, clamps) ] | inr less ↦ elim is.above [ inl one ↦ omega (arith, ints, clamps) | inr one ↦ omega (arith, ints, clamps) ] ]
 
     highs : (b : Bool) → int_le r.hi (pos 0) ≡ b → IsLeft v w (int_rem v w) → int_rem v w ≤ℤ cond b (pos 0) (int_min r.hi (most_left s))
-    highs true test is = let down = le_tells r.hi (pos 0) test in elim is.high [ | inl none ↦ none | inr more ↦ absurd (omega (arith, ints)) ]
-    highs false test is = let up = le_false r.hi (pos 0) test in elim is.high [ | inl none ↦ elim is.below [ | inl one ↦ omega (arith, ints, clamps) | inr one ↦ omega (arith, ints, clamps) ] | inr more ↦ elim is.below [ | inl one ↦ omega (arith, ints, clamps) | inr one ↦ omega (arith, ints, clamps) ] ]
+    highs true test is = let down = le_tells r.hi (pos 0) test in elim is.high [ inl none ↦ none | inr more ↦ absurd (omega (arith, ints)) ]
+    highs false test is = let up = le_false r.hi (pos 0) test in elim is.high [ inl none ↦ elim is.below [ inl one ↦ omega (arith, ints, clamps) | inr one ↦ omega (arith, ints, clamps) ] | inr more ↦ elim is.below [ inl one ↦ omega (arith, ints, clamps) | inr one ↦ omega (arith, ints, clamps) ] ]
 
     by : (b : Bool) → int_le (pos 0) (most_left s) ≡ b → IsLeft v w (int_rem v w) → Spans (cond b (Some (range (cond (int_le (pos 0) r.lo) (pos 0) (int_max r.lo (neg_ℤ (most_left s)))) (cond (int_le r.hi (pos 0)) (pos 0) (int_min r.hi (most_left s))))) None) (int_rem v w)
     by true test is = (lows (int_le (pos 0) r.lo) refl is, highs (int_le r.hi (pos 0)) refl is)
@@ -221,9 +219,10 @@ pub shifts_up_cover : (r s : Range) (v w : ℤ) → Spans (Some r) v → Spans (
 shifts_up_cover r s v w v_in w_in natural some = by (int_le (pos 0) r.hi) refl
   where
     by : (b : Bool) → int_le (pos 0) r.hi ≡ b → Spans (cond b (Some (range (shifted_up (int_max r.lo (pos 0)) s.lo) (shifted_up r.hi s.hi))) None) (shifted_up v w)
-    by true test =
-        (times_natural (int_max r.lo (pos 0)) v (unsigned_abs s.lo) (unsigned_abs w) (omega (arith, ints, clamps)) (omega (arith, ints, clamps)) (natural_up s.lo w natural w_in.0),
-        times_natural v r.hi (unsigned_abs w) (unsigned_abs s.hi) some v_in.1 (natural_up w s.hi (omega (arith, ints)) w_in.1))
+    by true test = (
+      times_natural (int_max r.lo (pos 0)) v (unsigned_abs s.lo) (unsigned_abs w) (omega (arith, ints, clamps)) (omega (arith, ints, clamps)) (natural_up s.lo w natural w_in.0),
+      times_natural v r.hi (unsigned_abs w) (unsigned_abs s.hi) some v_in.1 (natural_up w s.hi (omega (arith, ints)) w_in.1),
+    )
     by false test = let less = le_false (pos 0) r.hi test in absurd (omega (arith, ints))
 
 pub shifts_down_cover : (r s : Range) (v w : ℤ) → Spans (Some r) v → Spans (Some s) w → pos 0 ≤ℤ s.lo → Spans (Some (shifts_down r s)) (shifted_down v w)

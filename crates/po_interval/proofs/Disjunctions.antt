@@ -1,6 +1,6 @@
 -- Results of `|` and `^` lie between 0 and as many bits as hold both numbers, or among those of the type.
-use Rattle.std.proofs.Common.{◌≡◌, ◌≤◌, ◌<◌, ◌+◌, ◌-◌, ◌^◌, ◌%◌, ℕ, Bool, true, false, cond, arith, sym, refl, inl, inr, max, FitsSigned}
-use Rattle.std.specs.Prelude.{◌&&◌, ℤ, pos, negsuc, neg_ℤ, ◌≤ℤ◌, ◌<ℤ◌, ◌+ℤ◌, ◌⊎◌, Option, Some, None, int_le, bit_or, bit_xor}
+use Rattle.std.proofs.Common.{◌≡◌, ◌≤◌, ◌+◌, ◌^◌, ◌%◌, ℕ, Bool, true, false, cond, arith, refl, inl, inr, max}
+use Rattle.std.specs.Prelude.{◌&&◌, ℤ, pos, negsuc, ◌≤ℤ◌, ◌<ℤ◌, ◌+ℤ◌, ◌⊎◌, Some, int_le, bit_or, bit_xor}
 use Rattle.std.specs.Int.{int_max, int_bit_or, int_bit_xor, w128}
 use Rattle.std.proofs.lemmas.Int.{ints, clamps, to_z_pos}
 use Rattle.std.proofs.lemmas.Bool.{and_parts, cases_lt}
@@ -12,7 +12,7 @@ use Rattle.po_arith.proofs.BitByBit.{or_is, xor_is}
 use Rattle.po_interval.specs.Ranges.{range, Spans, all, disjunctions, filled, bits_of}
 use Rattle.po_interval.proofs.Ends.{le_tells}
 use Rattle.po_interval.proofs.Corners.{pow_up}
-use Rattle.po_interval.proofs.Covers.{le_false, least_unsigned, greatest_unsigned}
+use Rattle.po_interval.proofs.Covers.{least_unsigned, greatest_unsigned}
 use Rattle.po_interval.proofs.Bitwise.{small, fits_between, fits_of_type, kept_of_type, sign_of, filled_holds}
 
 -- numbers of k bits
@@ -42,8 +42,8 @@ few_enough k v less least = elim (cases_lt 100 k) [
 
 -- an operation that keeps numbers of k bits, and numbers of a signed type
 module _ (f : ℤ → ℤ → ℤ)
-  (below : (k : ℕ) (v w : ℤ) → k ≤ 127 → pos 0 ≤ℤ v → v <ℤ pos (2 ^ k) → pos 0 ≤ℤ w → w <ℤ pos (2 ^ k) → (pos 0 ≤ℤ f v w) × (f v w <ℤ pos (2 ^ k)))
-  (kept : (t : IntType) (v w : ℤ) → IsIntType t → t.signed ≡ true → IsOfType t v → IsOfType t w → IsOfType t (f v w)) where
+    (below : (k : ℕ) (v w : ℤ) → k ≤ 127 → pos 0 ≤ℤ v → v <ℤ pos (2 ^ k) → pos 0 ≤ℤ w → w <ℤ pos (2 ^ k) → (pos 0 ≤ℤ f v w) × (f v w <ℤ pos (2 ^ k)))
+    (kept : (t : IntType) (v w : ℤ) → IsIntType t → t.signed ≡ true → IsOfType t v → IsOfType t w → IsOfType t (f v w)) where
   of_type : (t : IntType) (v w : ℤ) → IsIntType t → IsOfType t v → IsOfType t w → IsOfType t (f v w)
   of_type t v w is v_of w_of = by (sign_of t)
     where

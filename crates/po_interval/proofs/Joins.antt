@@ -1,11 +1,11 @@
 -- The order of members, and their join as the least upper bound.
-use Rattle.std.proofs.Common.{◌≡◌, ◌≤◌, ◌<◌, ◌+◌, ℕ, zero, suc, Bool, true, false, cond, List, [], ◌∷◌, length, refl, sym, ◌∙◌, ap, subst, inl, inr, ◌⊎◌, arith}
+use Rattle.std.proofs.Common.{◌≡◌, ◌<◌, Bool, true, false, cond, List, [], ◌∷◌, length, refl, ap, subst, inl, inr, ◌⊎◌, arith}
 use Rattle.std.specs.Prelude.{ℤ, pos, ◌<ℤ◌, ◌+ℤ◌, nat_le}
 use Rattle.std.specs.Int.{int_max}
 use Rattle.std.proofs.lemmas.Int.{ints, clamps}
-use Rattle.std.proofs.lemmas.Bool.{le-leb, leb-true, cases_lt}
+use Rattle.std.proofs.lemmas.Bool.{le-leb, leb-true}
 use Rattle.po_interval.specs.Sets.{IsAmong, IsAscending, insert_all, few}
-use Rattle.po_interval.specs.Members.{Allows, IsProper, AreWithin, members_within, join_few, join_members}
+use Rattle.po_interval.specs.Members.{Allows, IsProper, AreWithin, members_within, join_members}
 use Rattle.po_interval.specs.declared.members.Members.{Members}
 use Rattle.po_interval.specs.declared.members.Members.TheVariants.{Few, Any}
 use Rattle.po_interval.proofs.Numbers.{from_all, all_old, all_new, all_ascending, shorter, same_set, within_tells, within_since}
@@ -119,11 +119,11 @@ join_associates a b c a_is b_is c_is =
     let other_is = join_proper a bc a_is bc_is in
     same_members _ _ one_is other_is
     (join_least ab c _ other_is
-      (join_least a b _ other_is (first_within a bc) (λ v here. second_within a bc v (first_within b c v here)))
-      (λ v here. second_within a bc v (second_within b c v here)))
+    (join_least a b _ other_is (first_within a bc) (λ v here. second_within a bc v (first_within b c v here)))
+    (λ v here. second_within a bc v (second_within b c v here)))
     (join_least a bc _ one_is
-      (λ v here. first_within ab c v (first_within a b v here))
-      (join_least b c _ one_is (λ v here. first_within ab c v (second_within a b v here)) (second_within ab c)))
+    (λ v here. first_within ab c v (first_within a b v here))
+    (join_least b c _ one_is (λ v here. first_within ab c v (second_within a b v here)) (second_within ab c)))
 
 pub join_idempotent : (a : Members) → IsProper a → join_members a a ≡ a
 join_idempotent a a_is = same_members _ _ (join_proper a a a_is a_is) a_is (join_least a a a a_is (λ v here. here) (λ v here. here)) (first_within a a)

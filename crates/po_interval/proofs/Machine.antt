@@ -1,19 +1,18 @@
 -- What the machine's 128 bits hold.
-use Rattle.std.proofs.Common.{◌≡◌, ◌≤◌, ◌<◌, ◌+◌, ◌-◌, ◌*◌, ◌/◌, ◌%◌, ◌^◌, ℕ, zero, suc, Bool, true, false, cond, arith, sym, refl, ap, ◌∙◌, inl, inr, min, FitsSigned, to_z, lit<}
-use Rattle.std.specs.Prelude.{◌&&◌, ℤ, pos, negsuc, neg_ℤ, ◌≤ℤ◌, ◌<ℤ◌, ◌+ℤ◌, ◌-ℤ◌, ◌*ℤ◌, ◌⊎◌, Option, Some, None, int_le, int_div, unsigned_abs}
+use Rattle.std.proofs.Common.{◌≡◌, ◌≤◌, ◌<◌, ◌-◌, ◌*◌, ◌%◌, ◌^◌, ℕ, suc, Bool, true, false, cond, arith, sym, refl, ap, ◌∙◌, inl, inr, min, FitsSigned, to_z, lit<}
+use Rattle.std.specs.Prelude.{ℤ, pos, negsuc, neg_ℤ, ◌≤ℤ◌, ◌<ℤ◌, ◌*ℤ◌, ◌⊎◌, Some, None, int_le, int_div, unsigned_abs}
 use Rattle.std.specs.Int.{int_min, int_max, saturate_signed, w128}
 use Rattle.std.proofs.lemmas.Int.{ints, clamps, to_z_pos, fits_signed_mul, by_lt_z}
-use Rattle.std.proofs.lemmas.Bool.{and_left, and_right, cond-false, cases_lt}
+use Rattle.std.proofs.lemmas.Bool.{and_left, and_right, cond-true, cond-false, cases_lt}
 use Rattle.std.proofs.lemmas.Nat.{pow_below}
 use Rattle.std.proofs.Math.Nat.{mod-eq_of_lt, div-le_self}
 use Rattle.po_arith.specs.declared.int_type.IntType.{IntType}
 use Rattle.po_arith.specs.declared.interval.Interval.{Interval}
 use Rattle.po_arith.specs.declared.range.Range.{Range}
 use Rattle.po_arith.specs.Types.{IsIntType, least, greatest}
-use Rattle.po_interval.specs.Ranges.{range, interval, some_range, as_interval, whole, part, conv_interval, corners, bits_of, near, EndsAlike}
+use Rattle.po_interval.specs.Ranges.{range, interval, some_range, as_interval, whole, part, conv_interval, corners, bits_of, shifted_up, shifts_up, AreAlike, EndsAlike}
 use Rattle.po_interval.specs.Within.{interval_within}
 use Rattle.po_interval.proofs.Corners.{pow_up}
-use Rattle.po_interval.proofs.Covers.{le_false}
 use Rattle.po_interval.proofs.Bitwise.{small, fits_between, filled_holds}
 use Rattle.po_interval.proofs.Disjunctions.{few_enough}
 
@@ -50,40 +49,62 @@ pub shifted_fits : (v n : ℤ) → pos 0 ≤ℤ v → v <ℤ pos (2 ^ 64) → po
 shifted_fits v n low high some few =
     fits_signed_mul w128 v (pos (2 ^ unsigned_abs n)) (2 ^ 64 - 1) (2 ^ 63) (size_small v low high) (pow_up (unsigned_abs n) 63 (count_few n some few)) (lit< tt)
 
+far_up : (n : ℕ) → 2 ^ 64 ≤ n → pos (2 ^ 64) ≤ℤ pos n
+far_up n far = omega (arith, ints)
+
+far_down : (n : ℕ) → 2 ^ 64 ≤ n → negsuc n ≤ℤ neg_ℤ (pos (2 ^ 64))
+far_down n far = omega (arith, ints)
+
 -- a product that 128 bits don't hold is beyond every type
-pub saturated : (x z : ℤ) → x ≡ saturate_signed w128 z → near x ≡ near z
-saturated x (pos n) is = rw is (elim (cases_lt n (2 ^ 127)) [
-  | inl less ↦ ap (λ (m : ℕ). near (pos m)) (omega arith)
-  | inr more ↦ omega (arith, ints, clamps)
-])
-saturated x (negsuc n) is = rw is (elim (cases_lt n (2 ^ 127)) [
-  | inl less ↦ ap (λ (m : ℕ). near (negsuc m)) (omega arith)
-  | inr more ↦ omega (arith, ints, clamps)
-])
+pub saturated : (x z : ℤ) → x ≡ saturate_signed w128 z → AreAlike x z
+saturated x (pos n) is = elim (cases_lt n (2 ^ 127)) [
+  | inl less ↦ let same : min n (2 ^ 127 - 1) ≡ n = omega arith in inl (is ∙ ap pos same)
+  | inr more ↦ let far : 2 ^ 64 ≤ min n (2 ^ 127 - 1) = omega arith in inr (inl (rw is (far_up (min n (2 ^ 127 - 1)) far), far_up n (omega arith)))
+]
+saturated x (negsuc n) is = elim (cases_lt n (2 ^ 127)) [
+  | inl less ↦ let same : min n (2 ^ 127 - 1) ≡ n = omega arith in inl (is ∙ ap negsuc same)
+  | inr more ↦ let far : 2 ^ 64 ≤ min n (2 ^ 127 - 1) = omega arith in inr (inr (rw is (far_down (min n (2 ^ 127 - 1)) far), far_down n (omega arith)))
+]
 
-least_near : (v w x y : ℤ) → near v ≡ near w → near x ≡ near y → near (int_min v x) ≡ near (int_min w y)
-least_near v w x y one other = omega (arith, ints, clamps)
+least_alike : (v w x y : ℤ) → AreAlike v w → AreAlike x y → AreAlike (int_min v x) (int_min w y)
+least_alike v w x y (inl one) (inl other) = inl (rw (one, other) refl)
+least_alike v w x y (inl one) (inr (inl far)) = by_lt_z v (pos (2 ^ 64)) (λ less. inl (omega (arith, ints, clamps))) (λ more. inr (inl (omega (arith, ints, clamps), omega (arith, ints, clamps))))
+least_alike v w x y (inl one) (inr (inr far)) = inr (inr (omega (arith, ints, clamps), omega (arith, ints, clamps)))
+least_alike v w x y (inr (inl far)) (inl other) = by_lt_z x (pos (2 ^ 64)) (λ less. inl (omega (arith, ints, clamps))) (λ more. inr (inl (omega (arith, ints, clamps), omega (arith, ints, clamps))))
+least_alike v w x y (inr (inl far)) (inr (inl also)) = inr (inl (omega (arith, ints, clamps), omega (arith, ints, clamps)))
+least_alike v w x y (inr (inl far)) (inr (inr also)) = inr (inr (omega (arith, ints, clamps), omega (arith, ints, clamps)))
+least_alike v w x y (inr (inr far)) other = inr (inr (omega (arith, ints, clamps), omega (arith, ints, clamps)))
 
-greatest_near : (v w x y : ℤ) → near v ≡ near w → near x ≡ near y → near (int_max v x) ≡ near (int_max w y)
-greatest_near v w x y one other = omega (arith, ints, clamps)
+greatest_alike : (v w x y : ℤ) → AreAlike v w → AreAlike x y → AreAlike (int_max v x) (int_max w y)
+greatest_alike v w x y (inl one) (inl other) = inl (rw (one, other) refl)
+greatest_alike v w x y (inl one) (inr (inr far)) = by_lt_z (neg_ℤ (pos (2 ^ 64))) v (λ more. inl (omega (arith, ints, clamps))) (λ less. inr (inr (omega (arith, ints, clamps), omega (arith, ints, clamps))))
+greatest_alike v w x y (inl one) (inr (inl far)) = inr (inl (omega (arith, ints, clamps), omega (arith, ints, clamps)))
+greatest_alike v w x y (inr (inr far)) (inl other) = by_lt_z (neg_ℤ (pos (2 ^ 64))) x (λ more. inl (omega (arith, ints, clamps))) (λ less. inr (inr (omega (arith, ints, clamps), omega (arith, ints, clamps))))
+greatest_alike v w x y (inr (inr far)) (inr (inr also)) = inr (inr (omega (arith, ints, clamps), omega (arith, ints, clamps)))
+greatest_alike v w x y (inr (inr far)) (inr (inl also)) = inr (inl (omega (arith, ints, clamps), omega (arith, ints, clamps)))
+greatest_alike v w x y (inr (inl far)) other = inr (inl (omega (arith, ints, clamps), omega (arith, ints, clamps)))
 
 corners_up : (p q u v : ℤ) → (corners p q u v).lo ≤ℤ (corners p q u v).hi
 corners_up p q u v = omega (arith, ints, clamps)
 
-pub corners_near : (p q u v p' q' u' v' : ℤ) → near p ≡ near p' → near q ≡ near q' → near u ≡ near u' → near v ≡ near v' → EndsAlike (corners p q u v) (corners p' q' u' v')
-corners_near p q u v p' q' u' v' a b c d = record {
-  low = least_near (int_min p q) (int_min p' q') (int_min u v) (int_min u' v') (least_near p p' q q' a b) (least_near u u' v v' c d);
-  high = greatest_near (int_max p q) (int_max p' q') (int_max u v) (int_max u' v') (greatest_near p p' q q' a b) (greatest_near u u' v v' c d);
+pub corners_alike : (p q u v p' q' u' v' : ℤ) → AreAlike p p' → AreAlike q q' → AreAlike u u' → AreAlike v v' → EndsAlike (corners p q u v) (corners p' q' u' v')
+corners_alike p q u v p' q' u' v' a b c d = record {
+  low = least_alike (int_min p q) (int_min p' q') (int_min u v) (int_min u' v') (least_alike p p' q q' a b) (least_alike u u' v v' c d);
+  high = greatest_alike (int_max p q) (int_max p' q') (int_max u v) (int_max u' v') (greatest_alike p p' q q' a b) (greatest_alike u u' v v' c d);
   first_up = corners_up p q u v;
   second_up = corners_up p' q' u' v';
 }
 
 -- what a type makes of ends beyond it doesn't depend on them
-low_same : (t : IntType) (v w : ℤ) → IsIntType t → near v ≡ near w → (int_max v (least t) ≡ int_max w (least t)) ⊎ ((greatest t <ℤ int_max v (least t)) × (greatest t <ℤ int_max w (least t)))
-low_same t v w is alike = let low = (small t is).low in let high = (small t is).high in by_lt_z v (pos (2 ^ 64)) (λ less. inl (omega (arith, ints, clamps))) (λ more. inr (omega (arith, ints, clamps), omega (arith, ints, clamps)))
+low_same : (t : IntType) (v w : ℤ) → IsIntType t → AreAlike v w → (int_max v (least t) ≡ int_max w (least t)) ⊎ ((greatest t <ℤ int_max v (least t)) × (greatest t <ℤ int_max w (least t)))
+low_same t v w is (inl same) = inl (rw same refl)
+low_same t v w is (inr (inl far)) = let high = (small t is).high in inr (omega (arith, ints, clamps), omega (arith, ints, clamps))
+low_same t v w is (inr (inr far)) = let low = (small t is).low in inl (omega (arith, ints, clamps))
 
-high_same : (t : IntType) (v w : ℤ) → IsIntType t → near v ≡ near w → (int_min v (greatest t) ≡ int_min w (greatest t)) ⊎ ((int_min v (greatest t) <ℤ least t) × (int_min w (greatest t) <ℤ least t))
-high_same t v w is alike = let low = (small t is).low in let high = (small t is).high in by_lt_z (neg_ℤ (pos (2 ^ 64))) v (λ more. inl (omega (arith, ints, clamps))) (λ less. inr (omega (arith, ints, clamps), omega (arith, ints, clamps)))
+high_same : (t : IntType) (v w : ℤ) → IsIntType t → AreAlike v w → (int_min v (greatest t) ≡ int_min w (greatest t)) ⊎ ((int_min v (greatest t) <ℤ least t) × (int_min w (greatest t) <ℤ least t))
+high_same t v w is (inl same) = inl (rw same refl)
+high_same t v w is (inr (inl far)) = let high = (small t is).high in inl (omega (arith, ints, clamps))
+high_same t v w is (inr (inr far)) = let low = (small t is).low in inr (omega (arith, ints, clamps), omega (arith, ints, clamps))
 
 le_not : (x y : ℤ) → y <ℤ x → int_le x y ≡ false
 le_not x y less = grind (arith, ints)
@@ -102,13 +123,7 @@ parts_same t r s is alike =
     (omega (arith, ints, clamps)) (omega (arith, ints, clamps)) (omega (arith, ints, clamps)) (omega (arith, ints, clamps))
     (low_same t r.lo s.lo is alike.low) (high_same t r.hi s.hi is alike.high)
 
--- where an end is beyond the types the other's is too, and neither interval lies within a type
-unlike : (v w : ℤ) → near v ≡ near w → (v ≡ w) ⊎ (((pos (2 ^ 64) ≤ℤ v) × (pos (2 ^ 64) ≤ℤ w)) ⊎ ((v ≤ℤ neg_ℤ (pos (2 ^ 64))) × (w ≤ℤ neg_ℤ (pos (2 ^ 64)))))
-unlike v w alike =
-    by_lt_z v (pos (2 ^ 65))
-    (λ less. by_lt_z (neg_ℤ (pos (2 ^ 65))) v (λ more. inl (omega (arith, ints, clamps))) (λ few. inr (inr (omega (arith, ints, clamps), omega (arith, ints, clamps)))))
-    (λ more. inr (inl (omega (arith, ints, clamps), omega (arith, ints, clamps))))
-
+-- an interval that reaches beyond the types doesn't lie within one
 too_high : (t : IntType) (lo hi : ℤ) → IsIntType t → pos (2 ^ 64) ≤ℤ hi → interval_within (interval lo hi) (whole t) ≡ false
 too_high t lo hi is far = let high = (small t is).high in and_right (int_le (least t) lo) (int_le hi (greatest t)) (le_not hi (greatest t) (omega (arith, ints)))
 
@@ -122,7 +137,7 @@ outside : (t : IntType) (a b : Interval) → interval_within a (whole t) ≡ fal
 outside t a b one other = cond-false (interval_within a (whole t)) a (whole t) one ∙ sym (cond-false (interval_within b (whole t)) b (whole t) other)
 
 kept_same : (t : IntType) (r s : Range) → IsIntType t → EndsAlike r s → kept t (interval r.lo r.hi) ≡ kept t (interval s.lo s.hi)
-kept_same t r s is alike = by (unlike r.lo s.lo alike.low) (unlike r.hi s.hi alike.high)
+kept_same t r s is alike = by alike.low alike.high
   where
     up : r.lo ≤ℤ r.hi
     up = alike.first_up
@@ -130,12 +145,12 @@ kept_same t r s is alike = by (unlike r.lo s.lo alike.low) (unlike r.hi s.hi ali
     other_up : s.lo ≤ℤ s.hi
     other_up = alike.second_up
 
-    by : (r.lo ≡ s.lo) ⊎ (((pos (2 ^ 64) ≤ℤ r.lo) × (pos (2 ^ 64) ≤ℤ s.lo)) ⊎ ((r.lo ≤ℤ neg_ℤ (pos (2 ^ 64))) × (s.lo ≤ℤ neg_ℤ (pos (2 ^ 64))))) → (r.hi ≡ s.hi) ⊎ (((pos (2 ^ 64) ≤ℤ r.hi) × (pos (2 ^ 64) ≤ℤ s.hi)) ⊎ ((r.hi ≤ℤ neg_ℤ (pos (2 ^ 64))) × (s.hi ≤ℤ neg_ℤ (pos (2 ^ 64))))) → kept t (interval r.lo r.hi) ≡ kept t (interval s.lo s.hi)
+    by : AreAlike r.lo s.lo → AreAlike r.hi s.hi → kept t (interval r.lo r.hi) ≡ kept t (interval s.lo s.hi)
     by (inl low) (inl high) = rw (low, high) refl
-    by (inr (inl low)) high = let first = up in let second = other_up in outside t _ _ (too_high t r.lo r.hi is (omega (arith, ints))) (too_high t s.lo s.hi is (omega (arith, ints)))
-    by (inr (inr low)) high = outside t _ _ (too_low t r.lo r.hi is low.0) (too_low t s.lo s.hi is low.1)
-    by (inl low) (inr (inl high)) = outside t _ _ (too_high t r.lo r.hi is high.0) (too_high t s.lo s.hi is high.1)
-    by (inl low) (inr (inr high)) = let first = up in let second = other_up in outside t _ _ (too_low t r.lo r.hi is (omega (arith, ints))) (too_low t s.lo s.hi is (omega (arith, ints)))
+    by (inr (inl low)) high = let first = up in let second = other_up in outside t (interval r.lo r.hi) (interval s.lo s.hi) (too_high t r.lo r.hi is (omega (arith, ints))) (too_high t s.lo s.hi is (omega (arith, ints)))
+    by (inr (inr low)) high = outside t (interval r.lo r.hi) (interval s.lo s.hi) (too_low t r.lo r.hi is low.0) (too_low t s.lo s.hi is low.1)
+    by (inl low) (inr (inl high)) = outside t (interval r.lo r.hi) (interval s.lo s.hi) (too_high t r.lo r.hi is high.0) (too_high t s.lo s.hi is high.1)
+    by (inl low) (inr (inr high)) = let first = up in let second = other_up in outside t (interval r.lo r.hi) (interval s.lo s.hi) (too_low t r.lo r.hi is (omega (arith, ints))) (too_low t s.lo s.hi is (omega (arith, ints)))
 
 pub conv_same : (t : IntType) (r s : Range) → IsIntType t → EndsAlike r s → conv_interval t (interval r.lo r.hi) ≡ conv_interval t (interval s.lo s.hi)
 conv_same t r s is alike = by t.signed
@@ -143,3 +158,6 @@ conv_same t r s is alike = by t.signed
     by : (b : Bool) → cond b (as_interval (part t (interval r.lo r.hi))) (Some (kept t (interval r.lo r.hi))) ≡ cond b (as_interval (part t (interval s.lo s.hi))) (Some (kept t (interval s.lo s.hi)))
     by true = ap as_interval (parts_same t r s is alike)
     by false = ap Some (kept_same t r s is alike)
+
+pub shifts_is : (r s : Range) (lo hi most : ℤ) → int_le (pos 0) r.hi ≡ true → most ≡ int_max r.lo (pos 0) → lo ≡ shifted_up most s.lo → hi ≡ shifted_up r.hi s.hi → Some (range lo hi) ≡ shifts_up r s
+shifts_is r s lo hi most test most_is lo_is hi_is = rw (lo_is, hi_is, most_is) (sym (cond-true (int_le (pos 0) r.hi) (Some (range (shifted_up (int_max r.lo (pos 0)) s.lo) (shifted_up r.hi s.hi))) None test))

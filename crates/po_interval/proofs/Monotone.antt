@@ -1,6 +1,6 @@
 -- Wider operands have wider intervals of results.
-use Rattle.std.proofs.Common.{◌≡◌, ◌≤◌, ◌<◌, ◌+◌, ◌-◌, ◌^◌, ℕ, Bool, true, false, cond, arith, refl, sym, ap, ◌∙◌, subst, inl, inr}
-use Rattle.std.specs.Prelude.{◌&&◌, ℤ, pos, neg_ℤ, ◌≤ℤ◌, ◌<ℤ◌, ◌+ℤ◌, ◌-ℤ◌, ◌*ℤ◌, ◌⊎◌, Option, Some, None, int_le, int_div, unsigned_abs}
+use Rattle.std.proofs.Common.{◌≡◌, ◌≤◌, ◌+◌, ◌-◌, ◌^◌, ℕ, Bool, true, false, cond, arith, refl, subst, inl, inr}
+use Rattle.std.specs.Prelude.{◌&&◌, ℤ, pos, neg_ℤ, ◌≤ℤ◌, ◌<ℤ◌, ◌*ℤ◌, ◌⊎◌, Option, Some, None, int_le, int_div, unsigned_abs}
 use Rattle.std.specs.Int.{int_min, int_max}
 use Rattle.std.proofs.lemmas.Int.{ints, clamps}
 use Rattle.std.proofs.lemmas.Bool.{and_parts, and_from, cases_lt, both_ways}
@@ -14,7 +14,7 @@ use Rattle.po_arith.specs.declared.interval.Interval.{Interval}
 use Rattle.po_arith.specs.declared.range.Range.{Range}
 use Rattle.po_arith.specs.Types.{IsIntType, least, greatest}
 use Rattle.po_interval.specs.Within.{interval_within}
-use Rattle.po_interval.specs.Ranges.{range, IsPart, AreWithin, some_range, cut, part, counts, sums, differences, products, negatives, positives, both, over, quotients, most_left, least_left, greatest_left, remainders, all, conjunctions, bits_of, filled, disjunctions, shifted_up, shifted_down, shifts_up, shifts_down, outcomes, takes_count, second, settled, of_parts, un_outcomes, of_part}
+use Rattle.po_interval.specs.Ranges.{range, IsPart, AreWithin, some_range, low_cut, high_cut, cut, part, counts, negatives, positives, both, over, quotients, most_left, least_left, greatest_left, remainders, all, conjunctions, bits_of, filled, disjunctions, shifted_up, shifted_down, shifts_up, outcomes, takes_count, second, of_parts, un_outcomes, of_part}
 use Rattle.po_interval.specs.Results.{BinIsMonotone, UnIsMonotone}
 use Rattle.po_interval.proofs.Ends.{le_tells, le_since}
 use Rattle.po_interval.proofs.Corners.{IsAny, IsPositive, IsNegative, IsNatural, corners_monotone, products_go, positive_quotients_go, negative_quotients_go, shifts_go, pow_up}
@@ -53,9 +53,9 @@ quotients_part : (r s u v : Range) → r.lo ≤ℤ r.hi → IsPart (Some r) (Som
 quotients_part r s u v r_up one other =
     both_part (over r (negatives s)) (over r (positives s)) (over u (negatives v)) (over u (positives v))
     (over_part IsNegative (corners_monotone int_div IsNegative negative_quotients_go) r u (negatives s) (negatives v) r_up (λ q same. up_of s.lo (int_min s.hi (neg_ℤ (pos 1))) q same) (λ q same. negative_ends v q same) one
-      (some_range_part s.lo (int_min s.hi (neg_ℤ (pos 1))) v.lo (int_min v.hi (neg_ℤ (pos 1))) other.0 (let high = other.1 in omega (arith, ints, clamps))))
+    (some_range_part s.lo (int_min s.hi (neg_ℤ (pos 1))) v.lo (int_min v.hi (neg_ℤ (pos 1))) other.0 (let high = other.1 in omega (arith, ints, clamps))))
     (over_part IsPositive (corners_monotone int_div IsPositive positive_quotients_go) r u (positives s) (positives v) r_up (λ q same. up_of (int_max s.lo (pos 1)) s.hi q same) (λ q same. positive_ends v q same) one
-      (some_range_part (int_max s.lo (pos 1)) s.hi (int_max v.lo (pos 1)) v.hi (let low = other.0 in omega (arith, ints, clamps)) other.1))
+    (some_range_part (int_max s.lo (pos 1)) s.hi (int_max v.lo (pos 1)) v.hi (let low = other.0 in omega (arith, ints, clamps)) other.1))
 
 -- remainders
 least_left_part : (lo lo' most most' : ℤ) → lo' ≤ℤ lo → most ≤ℤ most' → pos 0 ≤ℤ most → least_left lo' most' ≤ℤ least_left lo most
@@ -72,9 +72,9 @@ greatest_left_part hi hi' most most' high more some = by (int_le hi (pos 0)) (in
   where
     by : (b c : Bool) → int_le hi (pos 0) ≡ b → int_le hi' (pos 0) ≡ c → cond b (pos 0) (int_min hi most) ≤ℤ cond c (pos 0) (int_min hi' most')
     by true true test other = omega (arith, ints)
-    by true false test other = let more = le_false hi' (pos 0) other in omega (arith, ints, clamps)
+    by true false test other = let above = le_false hi' (pos 0) other in omega (arith, ints, clamps)
     by false false test other = omega (arith, ints, clamps)
-    by false true test other = let more = le_false hi (pos 0) test in let down = le_tells hi' (pos 0) other in absurd (omega (arith, ints))
+    by false true test other = let above = le_false hi (pos 0) test in let down = le_tells hi' (pos 0) other in absurd (omega (arith, ints))
 
 most_part : (s v : Range) → IsPart (Some s) (Some v) → most_left s ≤ℤ most_left v
 most_part s v other = let low = other.0 in let high = other.1 in omega (arith, ints, clamps)
@@ -82,6 +82,9 @@ most_part s v other = let low = other.0 in let high = other.1 in omega (arith, i
 remainders_part : (r s u v : Range) → IsPart (Some r) (Some u) → IsPart (Some s) (Some v) → IsPart (remainders r s) (remainders u v)
 remainders_part r s u v one other = by (int_le (pos 0) (most_left s)) (int_le (pos 0) (most_left v)) refl refl
   where
+    below : (x y : ℤ) → x ≤ℤ y → pos 0 ≤ℤ x → y <ℤ pos 0 → ⊥
+    below x y up some less = absurd (omega (arith, ints))
+
     more : most_left s ≤ℤ most_left v
     more = most_part s v other
 
@@ -91,9 +94,6 @@ remainders_part r s u v one other = by (int_le (pos 0) (most_left s)) (int_le (p
         let some = le_tells (pos 0) (most_left s) test in
         (least_left_part r.lo u.lo (most_left s) (most_left v) one.0 more some, greatest_left_part r.hi u.hi (most_left s) (most_left v) one.1 more some)
     by true false test other_test = absurd (below (most_left s) (most_left v) more (le_tells (pos 0) (most_left s) test) (le_false (pos 0) (most_left v) other_test))
-
-    below : (x y : ℤ) → x ≤ℤ y → pos 0 ≤ℤ x → y <ℤ pos 0 → ⊥
-    below x y up some less = absurd (omega (arith, ints))
 
 -- numbers of the type
 pub record IsOf (t : IntType) (r : Range) : Type 0 where
@@ -130,7 +130,7 @@ conjunctions_part t r s u v r_of s_of one other = by (int_le (pos 0) r.lo) (int_
     by false false false false p q x y = (omega (arith, ints), omega (arith, ints))
 
 -- as many bits as a number needs are no more than k, where k bits hold it
-bits_least : (v : ℤ) (k : ℕ) → pos 0 ≤ℤ v → v <ℤ pos (2 ^ 64) → v <ℤ pos (2 ^ k) → bits_of v ≤ k
+pub bits_least : (v : ℤ) (k : ℕ) → pos 0 ≤ℤ v → v <ℤ pos (2 ^ 64) → v <ℤ pos (2 ^ k) → bits_of v ≤ k
 bits_least v k some less held = elim (cases_lt k (bits_of v)) [
   | inr fewer ↦ fewer
   | inl more ↦
@@ -200,9 +200,10 @@ shifts_up_part r s u v s_up some one other = by (int_le (pos 0) r.hi) (int_le (p
     by true true test wider =
         let up = le_tells (pos 0) r.hi test in
         let low = one.0 in
-        let low_count = other.0 in
-        (times_natural (int_max u.lo (pos 0)) (int_max r.lo (pos 0)) (unsigned_abs v.lo) (unsigned_abs s.lo) (omega (arith, ints, clamps)) (omega (arith, ints, clamps)) (natural_up v.lo s.lo some other.0),
-        times_natural r.hi u.hi (unsigned_abs s.hi) (unsigned_abs v.hi) up one.1 (natural_up s.hi v.hi (omega (arith, ints)) other.1))
+        let low_count = other.0 in (
+          times_natural (int_max u.lo (pos 0)) (int_max r.lo (pos 0)) (unsigned_abs v.lo) (unsigned_abs s.lo) (omega (arith, ints, clamps)) (omega (arith, ints, clamps)) (natural_up v.lo s.lo some other.0),
+          times_natural r.hi u.hi (unsigned_abs s.hi) (unsigned_abs v.hi) up one.1 (natural_up s.hi v.hi (omega (arith, ints)) other.1),
+        )
     by true false test wider = let up = le_tells (pos 0) r.hi test in let less = le_false (pos 0) u.hi wider in let high = one.1 in absurd (omega (arith, ints))
 
 abbrev OutcomesAreMonotone : Op → Type 0
@@ -227,7 +228,7 @@ outcomes_monotone op.Gt t r s u v is r_of u_of s_up of count one other = (omega 
 outcomes_monotone op.Ge t r s u v is r_of u_of s_up of count one other = (omega (arith, ints), omega (arith, ints))
 
 cut_up : (low high : ℤ) (a : Interval) (s : Range) → cut low high a ≡ Some s → s.lo ≤ℤ s.hi
-cut_up low high a s same = up_of _ _ s same
+cut_up low high a s same = up_of (low_cut low a.lo) (high_cut high a.hi) s same
 
 part_of : (t : IntType) (a : Interval) (r : Range) → part t a ≡ Some r → IsOf t r
 part_of t a r same = record { low = cut_low (least t) (greatest t) a r same; up = cut_up (least t) (greatest t) a r same; high = cut_high (least t) (greatest t) a r same }

@@ -1,13 +1,16 @@
 -- Rounding goes to the nearest threshold.
 use Rattle.std.proofs.Common.{◌≡◌, Bool, true, false, cond, List, [], ◌∷◌, refl, sym, ap, subst, arith, inl, inr, ◌⊎◌}
-use Rattle.std.specs.Prelude.{ℤ, pos, ◌≤ℤ◌, ◌<ℤ◌, Option, Some, None, int_le}
+use Rattle.std.specs.Prelude.{not, ◌&&◌, ℤ, ◌≤ℤ◌, ◌<ℤ◌, Option, Some, None, int_le}
 use Rattle.std.specs.Int.{int_min, int_max}
 use Rattle.std.proofs.lemmas.Int.{ints, clamps}
-use Rattle.std.proofs.lemmas.Bool.{and_parts, and_from}
-use Rattle.po_arith.specs.declared.interval.Interval.{Interval}
+use Rattle.std.specs.List.{list_any}
+use Rattle.std.specs.Ordering.{int_cmp}
+use Rattle.std.specs.BTreeMap.{is_at}
+use Rattle.std.proofs.lemmas.Bool.{and_parts, and_from, or_cases, not-true}
+use Rattle.std.proofs.lemmas.Bool.Decides.{Decides-int_eq}
 use Rattle.po_interval.specs.Sets.{IsAmong}
-use Rattle.po_interval.specs.Within.{is_lower, is_upper, interval_within}
-use Rattle.po_interval.specs.Rounding.{greater_of, lesser_of, down_to, up_to, greatest_to, least_from, least_fine, greatest_fine, fine_to, fine_from, round_down, round_up, low_end, high_end, round, IsThreshold, IsNearestDown, IsNearestUp, RoundingWidens}
+use Rattle.po_interval.specs.Within.{is_lower, is_upper}
+use Rattle.po_interval.specs.Rounding.{greater_of, lesser_of, down_to, up_to, greatest_to, least_from, least_fine, greatest_fine, fine_to, fine_from, is_fine, is_threshold, round_down, round_up, low_end, high_end, IsThreshold, IsNearestDown, IsNearestUp, RoundingWidens}
 use Rattle.po_interval.specs.declared.thresholds.Thresholds.{Thresholds}
 use Rattle.po_interval.proofs.Ends.{le_tells, le_since}
 
@@ -155,6 +158,41 @@ down_is th false v = greatest_like _ _ v (greater_of (fine_to v) (greatest_to th
 pub up_is : (th : Thresholds) (head : Bool) (v : ℤ) → IsLeast (IsThreshold th head) v (round_up th head v)
 up_is th true v = least_like _ _ v (least_from th.coarse v) (λ w coarse. inl coarse) (coarse_only th) (least_is th.coarse v)
 up_is th false v = least_like _ _ v (lesser_of (fine_from v) (least_from th.coarse v)) (either th) (one_of th) (least_of_both IsFine (λ w. IsAmong w th.coarse) v (fine_from v) (least_from th.coarse v) (fine_up v) (least_is th.coarse v))
+
+-- a threshold is rounded to itself
+among : (xs : List ℤ) (v : ℤ) → list_any (is_at (int_cmp v)) xs ≡ true → IsAmong v xs
+among [] v test = absurd (cc)
+among (x ∷ xs) v test = by (among xs v) (or_cases (is_at (int_cmp v) x) (list_any (is_at (int_cmp v)) xs) test)
+  where
+    by : (list_any (is_at (int_cmp v)) xs ≡ true → IsAmong v xs) → (is_at (int_cmp v) x ≡ true) ⊎ (list_any (is_at (int_cmp v)) xs ≡ true) → (x ≡ v) ⊎ IsAmong v xs
+    by more (inl same) = inl (sym ((Decides-int_eq v x).0 same))
+    by more (inr rest) = inr (more rest)
+
+threshold_tells : (th : Thresholds) (head : Bool) (v : ℤ) → is_threshold th head v ≡ true → IsThreshold th head v
+threshold_tells th head v test = by (or_cases (not head && is_fine v) (list_any (is_at (int_cmp v)) th.coarse) test)
+  where
+    fine : (not head ≡ true) × (is_fine v ≡ true) → IsThreshold th head v
+    fine (node, ends) =
+        let tests = and_parts (int_le least_fine v) (int_le v greatest_fine) ends in
+        inr (not-true head node, le_tells least_fine v tests.0, le_tells v greatest_fine tests.1)
+
+    by : ((not head && is_fine v) ≡ true) ⊎ (list_any (is_at (int_cmp v)) th.coarse ≡ true) → IsThreshold th head v
+    by (inl first) = fine (and_parts (not head) (is_fine v) first)
+    by (inr second) = inl (among th.coarse v second)
+
+greatest_itself : (P : ℤ → Type 0) (v : ℤ) (end : Option ℤ) → P v → IsGreatest P v end → end ≡ Some v
+greatest_itself P v None here is = absurd (is v here (omega (arith, ints)))
+greatest_itself P v (Some x) here is = let low = is.1 in let high = is.2 v here (omega (arith, ints)) in let same : x ≡ v = omega (arith, ints) in ap Some same
+
+least_itself : (P : ℤ → Type 0) (v : ℤ) (end : Option ℤ) → P v → IsLeast P v end → end ≡ Some v
+least_itself P v None here is = absurd (is v here (omega (arith, ints)))
+least_itself P v (Some x) here is = let high = is.1 in let low = is.2 v here (omega (arith, ints)) in let same : x ≡ v = omega (arith, ints) in ap Some same
+
+pub down_itself : (th : Thresholds) (head : Bool) (v : ℤ) → is_threshold th head v ≡ true → round_down th head v ≡ Some v
+down_itself th head v test = greatest_itself (IsThreshold th head) v (round_down th head v) (threshold_tells th head v test) (down_is th head v)
+
+pub up_itself : (th : Thresholds) (head : Bool) (v : ℤ) → is_threshold th head v ≡ true → round_up th head v ≡ Some v
+up_itself th head v test = least_itself (IsThreshold th head) v (round_up th head v) (threshold_tells th head v test) (up_is th head v)
 
 nearest_down : (th : Thresholds) (head : Bool) (v : ℤ) (end : Option ℤ) → IsGreatest (IsThreshold th head) v end → IsNearestDown th head v end
 nearest_down th head v None is = is

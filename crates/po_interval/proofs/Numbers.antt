@@ -1,7 +1,6 @@
 -- Sets of whole numbers as ascending lists.
-use Rattle.std.proofs.Common.{◌≡◌, ◌≤◌, ◌<◌, ◌+◌, ℕ, Bool, true, false, cond, List, [], ◌∷◌, ◌++◌, length, refl, sym, ◌∙◌, ap, subst, inl, inr, ◌⊎◌, arith}
-use Rattle.std.specs.Prelude.{ℤ, ◌<ℤ◌, fold}
-use Rattle.std.specs.List.{list_any, list_all}
+use Rattle.std.proofs.Common.{◌≡◌, ◌≤◌, true, List, [], ◌∷◌, length, refl, sym, ◌∙◌, subst, inl, inr, ◌⊎◌, arith}
+use Rattle.std.specs.Prelude.{ℤ, ◌<ℤ◌}
 use Rattle.std.proofs.Common.{Ordering, Less, Equal, Greater}
 use Rattle.std.specs.Ordering.{int_cmp, int_eq, MatchOrdering, match_ordering}
 use Rattle.std.specs.Cmp.{int_ranks}
@@ -74,7 +73,7 @@ insert_ascending (x ∷ xs) v (low, up) = by (insert_ascending xs v up) (int_cmp
     later less w (inr rest) = low w rest
 
     by : IsAscending (insert_key int_cmp xs v) → (o : Ordering) → MatchOrdering o (v <ℤ x) (v ≡ x) (x <ℤ v) → IsAscending (match_ordering o (v ∷ x ∷ xs) (x ∷ xs) (x ∷ insert_key int_cmp xs v))
-    by rest Less rank = (first rank, low, up)
+    by rest Less rank = (first rank, (low, up))
     by rest Equal rank = (low, up)
     by rest Greater rank = (λ w here. later rank w (from_insert xs v w here), rest)
 

@@ -1,7 +1,6 @@
 -- Wider ranges have wider parts and conversions.
-use Rattle.std.proofs.Common.{◌≡◌, Bool, true, false, cond, arith, refl, sym, ap, ◌∙◌, subst, inl, inr}
-use Rattle.std.specs.Prelude.{◌-◌, ◌&&◌, ℤ, pos, neg_ℤ, ◌≤ℤ◌, ◌<ℤ◌, Option, Some, None, int_le}
-use Rattle.std.specs.Int.{int_min, int_max}
+use Rattle.std.proofs.Common.{◌≡◌, Bool, true, false, cond, arith, refl, sym, ◌∙◌}
+use Rattle.std.specs.Prelude.{ℤ, ◌≤ℤ◌, Option, Some, None, int_le}
 use Rattle.std.proofs.lemmas.Int.{ints, clamps}
 use Rattle.std.proofs.lemmas.Bool.{and_parts, and_from}
 use Rattle.po_arith.specs.declared.int_type.IntType.{IntType}
@@ -9,7 +8,7 @@ use Rattle.po_arith.specs.declared.interval.Interval.{Interval}
 use Rattle.po_arith.specs.declared.range.Range.{Range}
 use Rattle.po_arith.specs.Types.{IsIntType, least, greatest}
 use Rattle.po_interval.specs.Within.{is_lower, is_upper, interval_within}
-use Rattle.po_interval.specs.Ranges.{range, interval, IsPart, AreWithin, low_cut, high_cut, some_range, cut, whole, part, as_interval, conv_interval, settled}
+use Rattle.po_interval.specs.Ranges.{range, interval, IsPart, AreWithin, low_cut, high_cut, some_range, cut, whole, part, as_interval, settled}
 use Rattle.po_interval.specs.Results.{ConvIsMonotone}
 use Rattle.po_interval.proofs.Ends.{le_tells, le_since, ends_ordered}
 use Rattle.po_interval.proofs.Covers.{le_false}

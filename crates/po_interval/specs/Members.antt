@@ -1,5 +1,5 @@
 -- Members: which numbers they allow, their order and their join.
-use Rattle.std.specs.Prelude.{ℕ, ◌<◌, ◌≤◌, Bool, true, false, ℤ, List, [], ◌∷◌, ◌++◌, length, ◌⊎◌, ◌≡◌}
+use Rattle.std.specs.Prelude.{◌<◌, ◌≤◌, Bool, true, false, ℤ, List, [], length, ◌≡◌}
 use Rattle.po_interval.specs.Sets.{IsAmong, IsAscending, numbers_within, insert_all, few}
 use Rattle.po_interval.specs.declared.members.Members.{Members}
 use Rattle.po_interval.specs.declared.members.Members.TheVariants.{Few, Any}

@@ -1,5 +1,5 @@
 -- The intervals of results: for each operation the numbers that it may give of numbers between ends, and then what its type makes of them.
-use Rattle.std.specs.Prelude.{ℕ, ◌-◌, ◌+◌, ◌^◌, ◌≡◌, Bool, true, false, cond, ◌&&◌, ℤ, pos, neg_ℤ, ◌+ℤ◌, ◌-ℤ◌, ◌*ℤ◌, ◌≤ℤ◌, ◌<ℤ◌, ◌⊎◌, Option, Some, None, int_le, unsigned_abs, int_div}
+use Rattle.std.specs.Prelude.{ℕ, ◌-◌, ◌^◌, ◌≡◌, Bool, true, false, cond, ◌&&◌, ℤ, pos, neg_ℤ, ◌+ℤ◌, ◌-ℤ◌, ◌*ℤ◌, ◌≤ℤ◌, ◌<ℤ◌, ◌⊎◌, Option, Some, None, int_le, unsigned_abs, int_div}
 use Rattle.std.specs.Int.{int_min, int_max, int_shr, leading_zeros, cast_unsigned, w128}
 use Rattle.po_arith.specs.declared.int_type.IntType.{IntType}
 use Rattle.po_arith.specs.declared.interval.Interval.{Interval}
@@ -212,14 +212,14 @@ pub record IsShort (r : Range) : Type 0 where
   pub up : r.lo ≤ℤ r.hi
   pub high : r.hi <ℤ pos (2 ^ 64)
 
--- a number as far as the types reach: cut to what lies a little beyond them
-abbrev pub near : ℤ → ℤ
-near v = int_max (neg_ℤ (pos (2 ^ 65))) (int_min v (pos (2 ^ 65)))
+-- the same number, or both beyond the numbers of every type, on one side
+abbrev pub AreAlike : ℤ → ℤ → Type 0
+AreAlike v w = (v ≡ w) ⊎ (((pos (2 ^ 64) ≤ℤ v) × (pos (2 ^ 64) ≤ℤ w)) ⊎ ((v ≤ℤ neg_ℤ (pos (2 ^ 64))) × (w ≤ℤ neg_ℤ (pos (2 ^ 64)))))
 
 -- as far as the types reach the ranges are the same
 pub record EndsAlike (r s : Range) : Type 0 where
-  pub low : near r.lo ≡ near s.lo
-  pub high : near r.hi ≡ near s.hi
+  pub low : AreAlike r.lo s.lo
+  pub high : AreAlike r.hi s.hi
   pub first_up : r.lo ≤ℤ r.hi
   pub second_up : s.lo ≤ℤ s.hi
 

@@ -1,6 +1,9 @@
 -- Rounding the ends of intervals outwards to the nearest threshold.
-use Rattle.std.specs.Prelude.{ℕ, Bool, true, false, cond, ◌||◌, ℤ, pos, neg_ℤ, ◌≤ℤ◌, List, [], ◌∷◌, Option, Some, None, int_le, ◌≡◌, ◌⊎◌}
+use Rattle.std.specs.Prelude.{Bool, true, false, cond, not, ◌&&◌, ◌||◌, ℤ, pos, neg_ℤ, ◌≤ℤ◌, List, [], ◌∷◌, Option, Some, None, int_le, ◌≡◌, ◌⊎◌}
 use Rattle.std.specs.Int.{int_min, int_max}
+use Rattle.std.specs.List.{list_any}
+use Rattle.std.specs.Ordering.{int_cmp}
+use Rattle.std.specs.BTreeMap.{is_at}
 use Rattle.po_arith.specs.declared.interval.Interval.{Interval}
 use Rattle.po_interval.specs.Sets.{IsAmong}
 use Rattle.po_interval.specs.Within.{interval_within}
@@ -64,6 +67,16 @@ high_end th head (Some v) = round_up th head v
 
 abbrev pub round : Interval → Thresholds → Bool → Interval
 round a th head = record { lo = low_end th head a.lo; hi = high_end th head a.hi }
+
+-- a test for thresholds
+abbrev pub is_fine : ℤ → Bool
+is_fine v = int_le least_fine v && int_le v greatest_fine
+
+abbrev pub is_fine_end : Bool → ℤ → Bool
+is_fine_end head v = not head && is_fine v
+
+abbrev pub is_threshold : Thresholds → Bool → ℤ → Bool
+is_threshold th head v = is_fine_end head v || list_any (is_at (int_cmp v)) th.coarse
 
 -- v is a threshold, at a head or elsewhere
 abbrev pub IsThreshold : Thresholds → Bool → ℤ → Type 0

@@ -1,5 +1,5 @@
 -- Sets of whole numbers, kept as the ascending list of them.
-use Rattle.std.specs.Prelude.{ℕ, ◌≤◌, nat_le, Bool, cond, ℤ, List, [], ◌∷◌, length, ◌⊎◌, ◌≡◌, fold, ◌<ℤ◌}
+use Rattle.std.specs.Prelude.{nat_le, Bool, cond, ℤ, List, [], ◌∷◌, length, ◌⊎◌, ◌≡◌, fold, ◌<ℤ◌}
 use Rattle.std.specs.List.{list_any, list_all}
 use Rattle.std.specs.Ordering.{int_eq, int_cmp}
 use Rattle.std.specs.BTreeSet.{insert_key}

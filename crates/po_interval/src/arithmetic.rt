@@ -48,7 +48,6 @@ pub(crate) fn products(r: &Range, s: &Range) -> Range
     )
 }
 
-
 fn both(a: Option<Range>, b: Option<Range>) -> Option<Range>
     ensures { result ≡ ranges.both a b }
 {

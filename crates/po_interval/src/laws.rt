@@ -1,7 +1,7 @@
 ghost use Rattle.po_interval.specs.Within as within;
 ghost use Rattle.po_interval.specs.Members as members;
 ghost use Rattle.po_interval.specs.Rounding.{RoundsToNearest, RoundingWidens};
-ghost use Rattle.po_interval.specs.Results.{BinCovers, UnCovers, ConvCovers, BinIsMonotone, UnIsMonotone, ConvIsMonotone};
+ghost use Rattle.po_interval.specs.Results.{BinCovers, UnCovers, ConvCovers, BinIsMonotone, UnIsMonotone, ConvIsMonotone, ModuloIsC99, BitsAreLeast};
 ghost use Rattle.po_base.specs.declared.operators.Op.{Op};
 ghost use Rattle.po_base.specs.declared.operators.UnOp.{UnOp};
 
@@ -50,4 +50,10 @@ pub fn wider_operands_have_wider_results()
     ensures binary { (op : Op) → BinIsMonotone op }
     ensures unary { (op : UnOp) → UnIsMonotone op }
     ensures converted { ConvIsMonotone }
+{}
+
+/// What the definitions of results are made of is C's: a number modulo 2 to a width, and the bits that hold a number. It does nothing.
+pub fn results_are_those_of_c()
+    ensures modulo { ModuloIsC99 }
+    ensures bits { BitsAreLeast }
 {}

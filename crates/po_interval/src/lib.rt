@@ -1,6 +1,6 @@
 //! What is known of a whole number in a program: that it lies in an interval, or is one of a few numbers.
 //!
-//! For each operation of C's integer types the crate gives the interval and the members of its results.
+//! For each operation of C's integer types the crate gives the interval of its results.
 #![tactic(auto)]
 
 mod arithmetic;
@@ -17,8 +17,8 @@ mod within;
 pub use conversion::conv_interval;
 pub use laws::{
     binary_results_are_covered, intervals_are_ordered, join_of_members_is_least,
-    members_are_ordered, rounding_is_to_the_nearest, rounding_widens, unary_results_are_covered,
-    wider_operands_have_wider_results,
+    members_are_ordered, results_are_those_of_c, rounding_is_to_the_nearest, rounding_widens,
+    unary_results_are_covered, wider_operands_have_wider_results,
 };
 pub use members::{Members, join_members, members_within};
 pub use operations::{bin_interval, un_interval};

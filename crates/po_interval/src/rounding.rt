@@ -7,6 +7,7 @@ use po_base::OrdList;
 
 /// The ends of the fine thresholds, which hold every number between them.
 const LEAST_FINE: i128 = -65_536;
+
 const GREATEST_FINE: i128 = 65_536;
 
 fn greater_of(a: Option<i128>, b: Option<i128>) -> Option<i128>
@@ -109,21 +110,59 @@ fn round_up(th: &Thresholds, head: bool, v: i128) -> Option<i128>
     }
 }
 
+fn is_fine(v: i128) -> bool
+    ensures { result ≡ rounding.is_fine v }
+{
+    LEAST_FINE <= v && v <= GREATEST_FINE
+}
+
+/// Whether a number is a fine threshold where these count.
+fn is_fine_end(head: bool, v: i128) -> bool
+    ensures { result ≡ rounding.is_fine_end head v }
+{
+    !head && is_fine(v)
+}
+
+/// Whether a number is a threshold, and so is rounded to itself: this takes time in the logarithm of the coarse ones.
+fn is_threshold(th: &Thresholds, head: bool, v: i128) -> bool
+    ensures { result ≡ rounding.is_threshold th.now head v }
+{
+    if is_fine_end(head, v) {
+        true
+    } else {
+        th.coarse.has(&v)
+    }
+}
+
+#[tactic(auto, using(crate::proofs::Nearest::down_itself))]
 fn low_end(th: &Thresholds, head: bool, end: Option<i128>) -> Option<i128>
     ensures { result ≡ rounding.low_end th.now head end }
 {
     match end {
         None => None,
-        Some(v) => round_down(th, head, v),
+        Some(v) => {
+            if is_threshold(th, head, v) {
+                Some(v)
+            } else {
+                round_down(th, head, v)
+            }
+        }
     }
 }
 
+#[tactic(auto, using(crate::proofs::Nearest::up_itself))]
 fn high_end(th: &Thresholds, head: bool, end: Option<i128>) -> Option<i128>
     ensures { result ≡ rounding.high_end th.now head end }
 {
     match end {
         None => None,
-        Some(v) => round_up(th, head, v),
+        Some(v) => {
+            if is_threshold(th, head, v) {
+                Some(v)
+            } else {
+                round_up(th, head, v)
+            }
+        }
     }
 }
 

@@ -1,5 +1,5 @@
-use Rattle.std.proofs.Common.{rules, refl, FitsSigned, arith}
-use Rattle.std.specs.Prelude.{pos, neg_ℤ, ◌-ℤ◌}
+use Rattle.std.proofs.Common.{rules, ◌≡◌, refl, FitsSigned, arith}
+use Rattle.std.specs.Prelude.{pos, neg_ℤ, ◌+ℤ◌, ◌-ℤ◌}
 use Rattle.std.specs.Int.{w128}
 use Rattle.std.proofs.lemmas.Int.{to_z-of_z, ints, clamps}
 use Rattle.po_interval.proofs.Machine.{fits_wide}
@@ -13,7 +13,8 @@ returns-clause-value c =
     let low = c.requires.low in
     let up = c.requires.up in
     let high = c.requires.high in
-    let turned : FitsSigned w128 (neg_ℤ c.args.s.now.lo) = fits_wide _ (omega (arith, ints)) (omega (arith, ints)) in
+    let turned : FitsSigned w128 (pos 0 +ℤ neg_ℤ c.args.s.now.lo) = fits_wide _ (omega (arith, ints)) (omega (arith, ints)) in
     let greatest = simp to_z-of_z at c.max.ensures.value in
     let less : FitsSigned w128 (c.max.result -ℤ pos 1) = fits_wide _ (omega (arith, ints, clamps)) (omega (arith, ints, clamps)) in
-    simp to_z-of_z (rw greatest refl)
+    let flat : pos 0 +ℤ neg_ℤ c.args.s.now.lo ≡ neg_ℤ c.args.s.now.lo = omega (arith, ints) in
+    simp to_z-of_z (rw (greatest, flat) refl)

@@ -1,8 +1,8 @@
-use Rattle.std.proofs.Common.{rules, ◌≡◌, refl, ap, FitsSigned, arith}
-use Rattle.std.specs.Prelude.{ℤ, pos, ◌+ℤ◌, ◌-ℤ◌, ◌*ℤ◌, int_div}
+use Rattle.std.proofs.Common.{rules, FitsSigned}
+use Rattle.std.specs.Prelude.{◌*ℤ◌}
 use Rattle.std.specs.Int.{w128}
-use Rattle.std.proofs.lemmas.Int.{to_z-of_z, ints}
-use Rattle.po_interval.proofs.Machine.{saturated, corners_near}
+use Rattle.std.proofs.lemmas.Int.{to_z-of_z}
+use Rattle.po_interval.proofs.Machine.{saturated, corners_alike}
 use Rattle.po_interval.proofs.arithmetic.products.Goals as goal
 
 pub returns : goal.returns
@@ -20,4 +20,10 @@ returns c =
     let hl = simp to_z-of_z at c.saturating_mul-3.ensures in
     let hh = simp to_z-of_z at c.saturating_mul-4.ensures in
     let all = simp to_z-of_z at c.corners.ensures in
-    rw all (corners_near _ _ _ _ _ _ _ _ (saturated _ _ ll) (saturated _ _ lh) (saturated _ _ hl) (saturated _ _ hh))
+    rw all (corners_alike
+    c.saturating_mul.result c.saturating_mul-2.result c.saturating_mul-3.result c.saturating_mul-4.result
+    (c.args.r.now.lo *ℤ c.args.s.now.lo) (c.args.r.now.lo *ℤ c.args.s.now.hi) (c.args.r.now.hi *ℤ c.args.s.now.lo) (c.args.r.now.hi *ℤ c.args.s.now.hi)
+    (saturated c.saturating_mul.result (c.args.r.now.lo *ℤ c.args.s.now.lo) ll)
+    (saturated c.saturating_mul-2.result (c.args.r.now.lo *ℤ c.args.s.now.hi) lh)
+    (saturated c.saturating_mul-3.result (c.args.r.now.hi *ℤ c.args.s.now.lo) hl)
+    (saturated c.saturating_mul-4.result (c.args.r.now.hi *ℤ c.args.s.now.hi) hh))

@@ -1,5 +1,5 @@
-use Rattle.std.proofs.Common.{rules, ◌≡◌, refl, ap, FitsSigned, arith}
-use Rattle.std.specs.Prelude.{ℤ, pos, ◌+ℤ◌, ◌-ℤ◌, ◌*ℤ◌, int_div}
+use Rattle.std.proofs.Common.{FitsSigned, arith}
+use Rattle.std.specs.Prelude.{pos, ◌-ℤ◌}
 use Rattle.std.specs.Int.{w128}
 use Rattle.std.proofs.lemmas.Int.{to_z-of_z, ints}
 use Rattle.std.proofs.Common.{◌^◌}
