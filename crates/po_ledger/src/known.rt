@@ -7,7 +7,8 @@ ghost use Rattle.po_ledger.specs.Indexed.{AreLeft};
 ghost use Rattle.po_ledger.specs.Parts.{HasKey, HasVerdict, AddsUntaken, AddsEach, IsRemarked, primaries_below, primaries_of, supports_of};
 
 use crate::marks::{
-    Remark, change_slice, is_mark_at, is_verdict_at, lower, primary_at, settle_at, skip_settled, support_at,
+    Remark, change_slice, is_mark_at, is_verdict_at, lower, primary_at, settle_at, skip_settled,
+    support_at,
 };
 use crate::places::{place_of, put_place};
 use po_base::{FunNo, Memory, NodeNo};

@@ -5,10 +5,7 @@ pub enum Value {
     /// The null pointer (C99 6.3.2.3p3).
     Null,
     /// A pointer so many bytes from the start of a block. It may lie outside the block.
-    Pointer {
-        block: u64,
-        offset: i128,
-    },
+    Pointer { block: u64, offset: i128 },
     /// A pointer of which nothing is known, read out of bytes that aren't those of one pointer.
     Wild,
 }
@@ -20,9 +17,5 @@ pub enum Byte {
     Blank,
     Number(u8),
     /// The k-th byte of a pointer.
-    Part {
-        block: u64,
-        offset: i128,
-        k: u8,
-    },
+    Part { block: u64, offset: i128, k: u8 },
 }

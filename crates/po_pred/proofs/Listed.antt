@@ -67,7 +67,7 @@ contains_parameter (suc params) i lo hi below l h =
     elim (last_or_below i params below) [
       | inl last ↦ Contains-append_left (crossed (placed (Some (Param params))) all_offsets all_offsets) (parameter_places params) _
           (subst (λ n. Contains (crossed (placed (Some (Param n))) all_offsets all_offsets) (placed (Some (Param i)) lo hi)) last
-            (contains_crossed (placed (Some (Param i))) all_offsets all_offsets lo hi (contains_offset lo l) (contains_offset hi h)))
+          (contains_crossed (placed (Some (Param i))) all_offsets all_offsets lo hi (contains_offset lo l) (contains_offset hi h)))
       | inr less ↦ Contains-append_right (crossed (placed (Some (Param params))) all_offsets all_offsets) (parameter_places params) _ (contains_parameter params i lo hi less l h)
     ]
 
@@ -157,12 +157,12 @@ view_listed : (params : ℕ) (v : View) → v.kind < 16 → v.width < 2 ^ 8 → 
     OptionalOver params v.first → OptionalOver params v.second → OptionalOver params v.third → Contains (all_views params) v
 view_listed params v kind width factor low high first second third =
     contains_view params
-      (record { head = record { kind = v.kind; operator = v.operator }; scale = record { width = v.width; factor = v.factor } })
-      (record { first = v.first; sides = record { second = v.second; third = v.third } })
-      (record { low = v.low; high = v.high })
-      (contains_left _ _ (contains_head v.kind v.operator kind) (contains_scale v.width v.factor width factor))
-      (contains_right params v.first _ first (contains_sides params v.second v.third second third))
-      (contains_ends v.low v.high low high)
+    (record { head = record { kind = v.kind; operator = v.operator }; scale = record { width = v.width; factor = v.factor } })
+    (record { first = v.first; sides = record { second = v.second; third = v.third } })
+    (record { low = v.low; high = v.high })
+    (contains_left _ _ (contains_head v.kind v.operator kind) (contains_scale v.width v.factor width factor))
+    (contains_right params v.first _ first (contains_sides params v.second v.third second third))
+    (contains_ends v.low v.high low high)
 
 pub listed : (params : ℕ) (p : Pred) → IsOver params p → Contains (predicates_over params) p
 unfolding predicates_over

@@ -10,7 +10,10 @@ mod substitution;
 mod view;
 mod weights;
 
-pub use laws::{bounded_predicates_are_listed, equal_predicates_are_same, predicates_are_ordered, views_tell_predicates_apart};
+pub use laws::{
+    bounded_predicates_are_listed, equal_predicates_are_same, predicates_are_ordered,
+    views_tell_predicates_apart,
+};
 pub use pred::{Atom, Over, Place, Pred, Rule, Why};
 pub use spelling::spell;
 pub use substitution::subst;

@@ -87,7 +87,12 @@ fn add_place(out: &mut Out, names: &[Option<Text>], place: &Place) -> Result<(),
 }
 
 /// Adds a factor before a place, whose offset isn't multiplied.
-fn add_with_factor(out: &mut Out, names: &[Option<Text>], factor: i64, place: &Place) -> Result<(), Memory>
+fn add_with_factor(
+    out: &mut Out,
+    names: &[Option<Text>],
+    factor: i64,
+    place: &Place,
+) -> Result<(), Memory>
     ensures { OnOk result (out.new ≡ out.old ++ spelling.factor_text names.now factor place.now) }
 {
     out.add_whole(i128::from(factor))?;
@@ -132,7 +137,12 @@ fn add_multiplied(out: &mut Out, factor: i64, place: &Place) -> Result<(), Memor
     add_range(out, &ends)
 }
 
-fn add_numbers(out: &mut Out, names: &[Option<Text>], factor: i64, place: &Place) -> Result<(), Memory>
+fn add_numbers(
+    out: &mut Out,
+    names: &[Option<Text>],
+    factor: i64,
+    place: &Place,
+) -> Result<(), Memory>
     ensures { OnOk result (out.new ≡ out.old ++ spelling.numbers_text names.now factor place.now) }
 {
     if !is_narrow(place.lo) {
@@ -144,7 +154,12 @@ fn add_numbers(out: &mut Out, names: &[Option<Text>], factor: i64, place: &Place
     add_multiplied(out, factor, place)
 }
 
-fn add_multiple(out: &mut Out, names: &[Option<Text>], factor: i64, place: &Place) -> Result<(), Memory>
+fn add_multiple(
+    out: &mut Out,
+    names: &[Option<Text>],
+    factor: i64,
+    place: &Place,
+) -> Result<(), Memory>
     ensures { OnOk result (out.new ≡ out.old ++ spelling.multiple_text place.now.atom names.now factor place.now) }
 {
     match place.atom {
@@ -153,7 +168,12 @@ fn add_multiple(out: &mut Out, names: &[Option<Text>], factor: i64, place: &Plac
     }
 }
 
-fn add_scaled(out: &mut Out, names: &[Option<Text>], factor: i64, place: &Place) -> Result<(), Memory>
+fn add_scaled(
+    out: &mut Out,
+    names: &[Option<Text>],
+    factor: i64,
+    place: &Place,
+) -> Result<(), Memory>
     ensures { OnOk result (out.new ≡ out.old ++ spelling.scaled_text names.now factor place.now) }
 {
     if factor == 1 {
@@ -230,7 +250,12 @@ fn add_first(out: &mut Out, names: &[Option<Text>], first: &Option<Place>) -> Re
     }
 }
 
-fn add_further(out: &mut Out, names: &[Option<Text>], factor: i64, further: &Option<Place>) -> Result<(), Memory>
+fn add_further(
+    out: &mut Out,
+    names: &[Option<Text>],
+    factor: i64,
+    further: &Option<Place>,
+) -> Result<(), Memory>
     ensures { OnOk result (out.new ≡ out.old ++ spelling.further_text names.now factor further.now) }
 {
     match further {

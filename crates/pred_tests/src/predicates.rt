@@ -105,7 +105,10 @@ fn numbers_are_spelled(rt: HostRuntime) -> Result<(), Fail> {
             no_over(Over::Shl, 64, number(1), register(2, 0, 0)),
             b"no_over(shl64,1,i)",
         ),
-        (negation(32, number(2_147_483_647)), b"no_over(neg,2147483647)"),
+        (
+            negation(32, number(2_147_483_647)),
+            b"no_over(neg,2147483647)",
+        ),
         (negation(64, register(0, 0, 0)), b"no_over(neg64,a)"),
         (int_in(number(300), -128, 127), b"int_in(300,-128,127)"),
         (int_in(register(2, 0, 0), 0, 31), b"int_in(i,0,31)"),
@@ -133,7 +136,12 @@ fn pointers_are_spelled(rt: HostRuntime) -> Result<(), Fail> {
     let rows: [(Pred, &[u8]); 24] = [
         (Pred::NotNull { p }, b"not_null(p)"),
         (Pred::NotNull { p: number(0) }, b"not_null(0)"),
-        (Pred::Live { p: argument(0, 4, 4) }, b"live($0+4)"),
+        (
+            Pred::Live {
+                p: argument(0, 4, 4),
+            },
+            b"live($0+4)",
+        ),
         (span(register(3, 0, 0), 4, i, i), b"span(%0,4*i,4*i)"),
         (span(p, 1, number(0), number(4)), b"span(p,0,4)"),
         (span(p, 4, register(2, 1, 1), i), b"span(p,4*i+1,4*i)"),
@@ -143,7 +151,12 @@ fn pointers_are_spelled(rt: HostRuntime) -> Result<(), Fail> {
         (span(p, -4, range(1, 2), number(0)), b"span(p,-4..-8,0)"),
         (span(p, 0, range(1, 2), i), b"span(p,0,0*i)"),
         (
-            span(p, 9_223_372_036_854_775_807, number(18_446_744_073_709_551_615), number(1)),
+            span(
+                p,
+                9_223_372_036_854_775_807,
+                number(18_446_744_073_709_551_615),
+                number(1),
+            ),
             b"span(p,170141183460469231704017187605319778305,9223372036854775807)",
         ),
         (
@@ -151,12 +164,20 @@ fn pointers_are_spelled(rt: HostRuntime) -> Result<(), Fail> {
             b"span($0-1..1,-1024,1024)",
         ),
         (filled(p, 1, number(0), i), b"filled(p,0,i)"),
-        (filled(argument(0, 0, 0), 2, number(0), argument(1, 0, 0)), b"filled($0,0,2*$1)"),
+        (
+            filled(argument(0, 0, 0), 2, number(0), argument(1, 0, 0)),
+            b"filled($0,0,2*$1)",
+        ),
         (Pred::Writable { p: q }, b"writable(q)"),
         (Pred::Aligned { p, a: 16 }, b"aligned(p,16)"),
         (Pred::SameBlock { p, q }, b"same_block(p,q)"),
         (Pred::HeapStart { p }, b"heap_start(p)"),
-        (Pred::Terminated { p: register(0, 3, 3) }, b"terminated(p+3)"),
+        (
+            Pred::Terminated {
+                p: register(0, 3, 3),
+            },
+            b"terminated(p+3)",
+        ),
         (Pred::Apart { p, q, n: i }, b"apart(p,q,i)"),
         (Pred::RoomFor { p, q: number(0) }, b"room_for(p,0)"),
         (Pred::Never { why: Why::Unread }, b"never(unread)"),
@@ -175,7 +196,9 @@ fn predicates_stand_in_their_order(rt: HostRuntime) {
     let q = argument(1, 0, 0);
     let ascending = [
         Pred::NotNull { p: number(0) },
-        Pred::NotNull { p: register(9, 0, 0) },
+        Pred::NotNull {
+            p: register(9, 0, 0),
+        },
         Pred::NotNull { p },
         Pred::Live { p },
         span(p, 9, number(0), number(1)),
@@ -239,10 +262,16 @@ fn places_weigh_by_what_they_name(rt: HostRuntime) {
         (nonzero(argument(0, 1, 1)), 5),
         (nonzero(argument(0, 0, 1)), 6),
         (no_over(Over::Div, 32, word(), argument(1, 0, 0)), 6),
-        (no_over(Over::Add, 64, argument(0, 1, 2), argument(1, 1, 2)), 11),
+        (
+            no_over(Over::Add, 64, argument(0, 1, 2), argument(1, 1, 2)),
+            11,
+        ),
         (negation(32, p), 4),
         (span(p, 4, number(0), number(9)), 6),
-        (filled(argument(0, 1, 1), 1, argument(1, 0, 0), range(1, 2)), 10),
+        (
+            filled(argument(0, 1, 1), 1, argument(1, 0, 0), range(1, 2)),
+            10,
+        ),
         (int_in(p, -128, 127), 4),
         (Pred::Aligned { p, a: 8 }, 4),
         (Pred::Apart { p, q: p, n: p }, 10),
