@@ -1,3 +1,4 @@
+use crate::few::answer_few;
 use crate::words::{op_of, type_of};
 use po_arith::Interval;
 use po_base::{Memory, OrdList, SharedList, UnOp};
@@ -43,7 +44,7 @@ fn show(rt: &impl Print, answer: Option<Interval>) -> io::Result<()> {
 }
 
 /// Writes members.
-fn show_members(rt: &impl Print, members: &Members) -> io::Result<()> {
+pub(crate) fn show_members(rt: &impl Print, members: &Members) -> io::Result<()> {
     match members {
         Members::Any => println!(rt; "any"),
         Members::Few(list) => {
@@ -56,7 +57,7 @@ fn show_members(rt: &impl Print, members: &Members) -> io::Result<()> {
 }
 
 /// The members that words list: any, or numbers in ascending order.
-fn members(alloc: Global, words: &[&str]) -> Result<Members, Memory> {
+pub(crate) fn members(alloc: Global, words: &[&str]) -> Result<Members, Memory> {
     let mut list = Vec::new(alloc);
     for word in words {
         match end(word) {
@@ -148,6 +149,7 @@ pub(crate) fn answer(rt: &(impl Print + AllocGlobal), line: &str) -> io::Result<
         ["join", more @ ..] => answer_members(rt, "join", more),
         ["within", more @ ..] => answer_members(rt, "within", more),
         ["share", more @ ..] => answer_share(rt, more),
+        ["few", more @ ..] => answer_few(rt, more),
         ["round", more @ ..] => answer_round(rt, more),
         [verb, more @ ..] => answer_type(rt, verb, more),
         [] => println!(rt; ""),

@@ -21,7 +21,7 @@ use Rattle.po_interval.proofs.Covers.{some_same, given_some, cut_spans, settled_
 use Rattle.po_interval.proofs.Bitwise.{conjunctions_cover}
 use Rattle.po_interval.proofs.Disjunctions.{or_cover, xor_cover}
 
-conv_all_some : (t : IntType) (o : Option ℤ) (x : ℤ) → conv_all t o ≡ Some x → (y : ℤ) × (o ≡ Some y) × (conv t y ≡ Some x)
+pub conv_all_some : (t : IntType) (o : Option ℤ) (x : ℤ) → conv_all t o ≡ Some x → (y : ℤ) × (o ≡ Some y) × (conv t y ≡ Some x)
 conv_all_some t (Some y) x same = (y, refl, same)
 conv_all_some t None x same = absurd (cc)
 

@@ -10,3 +10,5 @@ pub mod Covered
 pub mod Machine
 pub mod Widening
 pub mod Monotone
+pub mod Gathered
+pub mod Allowed

@@ -1,6 +1,6 @@
 -- What the machine's 128 bits hold.
 use Rattle.std.proofs.Common.{◌≡◌, ◌≤◌, ◌<◌, ◌-◌, ◌*◌, ◌%◌, ◌^◌, ℕ, suc, Bool, true, false, cond, arith, sym, refl, ap, ◌∙◌, inl, inr, min, FitsSigned, to_z, lit<}
-use Rattle.std.specs.Prelude.{ℤ, pos, negsuc, neg_ℤ, ◌≤ℤ◌, ◌<ℤ◌, ◌*ℤ◌, ◌⊎◌, Some, None, int_le, int_div, unsigned_abs}
+use Rattle.std.specs.Prelude.{ℤ, pos, negsuc, neg_ℤ, ◌≤ℤ◌, ◌<ℤ◌, ◌+ℤ◌, ◌-ℤ◌, ◌*ℤ◌, ◌⊎◌, Some, None, int_le, int_div, unsigned_abs}
 use Rattle.std.specs.Int.{int_min, int_max, saturate_signed, w128}
 use Rattle.std.proofs.lemmas.Int.{ints, clamps, to_z_pos, fits_signed_mul, by_lt_z}
 use Rattle.std.proofs.lemmas.Bool.{and_left, and_right, cond-true, cond-false, cases_lt}
@@ -9,7 +9,7 @@ use Rattle.std.proofs.Math.Nat.{mod-eq_of_lt, div-le_self}
 use Rattle.po_arith.specs.declared.int_type.IntType.{IntType}
 use Rattle.po_arith.specs.declared.interval.Interval.{Interval}
 use Rattle.po_arith.specs.declared.range.Range.{Range}
-use Rattle.po_arith.specs.Types.{IsIntType, least, greatest}
+use Rattle.po_arith.specs.Types.{IsIntType, IsOfType, least, greatest}
 use Rattle.po_interval.specs.Ranges.{range, interval, some_range, as_interval, whole, part, conv_interval, corners, bits_of, shifted_up, shifts_up, AreAlike, EndsAlike}
 use Rattle.po_interval.specs.Within.{interval_within}
 use Rattle.po_interval.proofs.Corners.{pow_up}
@@ -161,3 +161,54 @@ conv_same t r s is alike = by t.signed
 
 pub shifts_is : (r s : Range) (lo hi most : ℤ) → int_le (pos 0) r.hi ≡ true → most ≡ int_max r.lo (pos 0) → lo ≡ shifted_up most s.lo → hi ≡ shifted_up r.hi s.hi → Some (range lo hi) ≡ shifts_up r s
 shifts_is r s lo hi most test most_is lo_is hi_is = rw (lo_is, hi_is, most_is) (sym (cond-true (int_le (pos 0) r.hi) (Some (range (shifted_up (int_max r.lo (pos 0)) s.lo) (shifted_up r.hi s.hi))) None test))
+
+-- sums, differences and products of numbers of a type
+pub of_type_small : (t : IntType) (v : ℤ) → IsIntType t → IsOfType t v → (neg_ℤ (pos (2 ^ 120)) ≤ℤ v) × (v ≤ℤ pos (2 ^ 120))
+of_type_small t v is of =
+    let s = small t is in
+    let low = s.low in
+    let high = s.high in
+    let above = of.0 in
+    let below = of.1 in
+    (omega (arith, ints), omega (arith, ints))
+
+pub sum_fits : (t : IntType) (v w : ℤ) → IsIntType t → IsOfType t v → IsOfType t w → FitsSigned w128 (v +ℤ w)
+sum_fits t v w is v_of w_of =
+    let s = small t is in
+    let low = s.low in
+    let high = s.high in
+    let v_low = v_of.0 in
+    let v_high = v_of.1 in
+    let w_low = w_of.0 in
+    let w_high = w_of.1 in
+    fits_wide _ (omega (arith, ints)) (omega (arith, ints))
+
+pub difference_fits : (t : IntType) (v w : ℤ) → IsIntType t → IsOfType t v → IsOfType t w → FitsSigned w128 (v -ℤ w)
+difference_fits t v w is v_of w_of =
+    let s = small t is in
+    let low = s.low in
+    let high = s.high in
+    let v_low = v_of.0 in
+    let v_high = v_of.1 in
+    let w_low = w_of.0 in
+    let w_high = w_of.1 in
+    fits_wide _ (omega (arith, ints)) (omega (arith, ints))
+
+size_most : (v : ℤ) → neg_ℤ (pos (2 ^ 63)) ≤ℤ v → v ≤ℤ pos (2 ^ 63) → unsigned_abs v ≤ 2 ^ 63
+size_most (pos n) low high = omega (arith, ints)
+size_most (negsuc n) low high = omega (arith, ints)
+
+size_of_type : (t : IntType) (v : ℤ) → IsIntType t → t.signed ≡ true → IsOfType t v → unsigned_abs v ≤ 2 ^ 63
+size_of_type t v is kind of =
+    let s = small t is in
+    let some = s.some_bits in
+    let few = s.few_bits in
+    let half = pow_up (t.bits - 1) 63 (omega arith) in
+    let last : greatest t ≡ pos (2 ^ (t.bits - 1) - 1) = rw kind refl in
+    let low = s.low in
+    let above = of.0 in
+    let below = of.1 in
+    size_most v (omega (arith, ints)) (omega (arith, ints))
+
+pub product_fits : (t : IntType) (v w : ℤ) → IsIntType t → t.signed ≡ true → IsOfType t v → IsOfType t w → FitsSigned w128 (v *ℤ w)
+product_fits t v w is kind v_of w_of = fits_signed_mul w128 v w (2 ^ 63) (2 ^ 63) (size_of_type t v is kind v_of) (size_of_type t w is kind w_of) (lit< tt)

@@ -4,3 +4,4 @@ pub mod Within
 pub mod Rounding
 pub mod Ranges
 pub mod Results
+pub mod Gathering

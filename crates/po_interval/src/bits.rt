@@ -47,7 +47,7 @@ pub(crate) fn disjunctions(t: IntType, r: &Range, s: &Range) -> Range
 }
 
 /// `v` times 2 to the `n`.
-fn shifted_up(v: i128, n: i128) -> i128
+pub(crate) fn shifted_up(v: i128, n: i128) -> i128
     requires low { pos 0 ≤ℤ v }
     requires high { v <ℤ pos (2 ^ 64) }
     requires count { pos 0 ≤ℤ n }
@@ -73,7 +73,7 @@ pub(crate) fn shifts_up(r: &Range, s: &Range) -> Option<Range>
 }
 
 /// `v` over 2 to the `n`, rounded down.
-fn shifted_down(v: i128, n: i128) -> i128
+pub(crate) fn shifted_down(v: i128, n: i128) -> i128
     requires low { pos 0 ≤ℤ n }
     requires high { n <ℤ pos 64 }
     ensures { result ≡ ranges.shifted_down v n }

@@ -2,6 +2,7 @@ ghost use Rattle.po_interval.specs.Within as within;
 ghost use Rattle.po_interval.specs.Members as members;
 ghost use Rattle.po_interval.specs.Rounding.{RoundsToNearest, RoundingWidens};
 ghost use Rattle.po_interval.specs.Results.{BinCovers, UnCovers, ConvCovers, BinIsMonotone, UnIsMonotone, ConvIsMonotone, ModuloIsC99, BitsAreLeast};
+ghost use Rattle.po_interval.specs.Gathering.{BinMembersCover, UnMembersCover, ConvMembersCover, BinMembersAreMonotone, UnMembersAreMonotone, ConvMembersAreMonotone, ResultsAreOfType};
 ghost use Rattle.po_base.specs.declared.operators.Op.{Op};
 ghost use Rattle.po_base.specs.declared.operators.UnOp.{UnOp};
 
@@ -18,10 +19,11 @@ pub fn members_are_ordered()
 {}
 
 /// The join of members is their least upper bound within eight numbers; order, grouping and repetition don't
-/// matter. It does nothing.
+/// matter, and what it lists is listed by one of the two. It does nothing.
 pub fn join_of_members_is_least()
     ensures least { members.JoinIsLeast }
     ensures of_sets { members.JoinIsOfSets }
+    ensures of_both { members.JoinIsOfBoth }
 {}
 
 /// Each end is rounded to the nearest threshold. It does nothing.
@@ -56,4 +58,23 @@ pub fn wider_operands_have_wider_results()
 pub fn results_are_those_of_c()
     ensures modulo { ModuloIsC99 }
     ensures bits { BitsAreLeast }
+{}
+
+/// Members of results allow each result. It does nothing.
+pub fn results_are_allowed()
+    ensures binary { (op : Op) → BinMembersCover op }
+    ensures unary { (op : UnOp) → UnMembersCover op }
+    ensures converted { ConvMembersCover }
+{}
+
+/// Members of operands that allow more have results that allow more. It does nothing.
+pub fn more_members_have_more_results()
+    ensures binary { (op : Op) → BinMembersAreMonotone op }
+    ensures unary { (op : UnOp) → UnMembersAreMonotone op }
+    ensures converted { ConvMembersAreMonotone }
+{}
+
+/// Members of results are numbers of the type, and proper members. It does nothing.
+pub fn members_of_results_are_of_type()
+    ensures { ResultsAreOfType }
 {}

@@ -116,7 +116,7 @@ pub fn bin_interval(op: Op, t: IntType, a: &Interval, b: &Interval) -> Option<In
 }
 
 /// From where the complement is counted down (C99 6.5.3.3p4).
-fn complement_from(t: IntType) -> i128
+pub(crate) fn complement_from(t: IntType) -> i128
     requires { IsIntType t }
     ensures value { result ≡ ranges.complement_from t }
     ensures low { negsuc 0 ≤ℤ result }
