@@ -1,11 +1,13 @@
 -- The order of members, and their join as the least upper bound.
-use Rattle.std.proofs.Common.{◌≡◌, ◌<◌, Bool, true, false, cond, List, [], ◌∷◌, length, refl, ap, subst, inl, inr, ◌⊎◌, arith}
+use Rattle.std.proofs.Common.{◌≡◌, ◌<◌, Bool, true, false, cond, List, [], ◌∷◌, length, refl, sym, ap, subst, inl, inr, ◌⊎◌, arith}
 use Rattle.std.specs.Prelude.{ℤ, pos, ◌<ℤ◌, ◌+ℤ◌, nat_le}
 use Rattle.std.specs.Int.{int_max}
 use Rattle.std.proofs.lemmas.Int.{ints, clamps}
 use Rattle.std.proofs.lemmas.Bool.{le-leb, leb-true}
 use Rattle.po_interval.specs.Sets.{IsAmong, IsAscending, insert_all, few}
-use Rattle.po_interval.specs.Members.{Allows, IsProper, AreWithin, members_within, join_members}
+use Rattle.po_arith.specs.declared.int_type.IntType.{IntType}
+use Rattle.po_arith.specs.Types.{IsOfType}
+use Rattle.po_interval.specs.Members.{Allows, IsProper, AreOfType, AreWithin, members_within, join_members}
 use Rattle.po_interval.specs.declared.members.Members.{Members}
 use Rattle.po_interval.specs.declared.members.Members.TheVariants.{Few, Any}
 use Rattle.po_interval.proofs.Numbers.{from_all, all_old, all_new, all_ascending, shorter, same_set, within_tells, within_since}
@@ -127,3 +129,36 @@ join_associates a b c a_is b_is c_is =
 
 pub join_idempotent : (a : Members) → IsProper a → join_members a a ≡ a
 join_idempotent a a_is = same_members _ _ (join_proper a a a_is a_is) a_is (join_least a a a a_is (λ v here. here) (λ v here. here)) (first_within a a)
+
+-- what few numbers allow where they are listed
+abbrev numbers_of : Members → List ℤ
+numbers_of (Few xs) = xs
+numbers_of Any = []
+
+pub few_listed : (xs zs : List ℤ) (v : ℤ) → few xs ≡ Few zs → IsAmong v zs → IsAmong v xs
+few_listed xs zs v same here = by (nat_le (length xs) 8) same
+  where
+    by : (b : Bool) → cond b (Few xs) Any ≡ Few zs → IsAmong v xs
+    by true is = subst (IsAmong v) (sym (ap numbers_of is)) here
+    by false is = absurd (cc)
+
+pub few_of_type : (t : IntType) (xs : List ℤ) → ((v : ℤ) → IsAmong v xs → IsOfType t v) → AreOfType t (few xs)
+few_of_type t xs all = by (nat_le (length xs) 8)
+  where
+    by : (b : Bool) → AreOfType t (cond b (Few xs) Any)
+    by true = all
+    by false = tt
+
+pub join_listed : (a b : Members) (zs : List ℤ) (v : ℤ) → join_members a b ≡ Few zs → IsAmong v zs → Allows a v ⊎ Allows b v
+join_listed (Few xs) (Few ys) zs v same here = joined xs ys v (few_listed (insert_all (insert_all [] xs) ys) zs v same here)
+join_listed (Few xs) Any zs v same here = inr tt
+join_listed Any b zs v same here = inl tt
+
+pub join_of_type : (t : IntType) (a b : Members) → AreOfType t a → AreOfType t b → AreOfType t (join_members a b)
+join_of_type t (Few xs) (Few ys) one other = few_of_type t (insert_all (insert_all [] xs) ys) (λ v here. by v (joined xs ys v here))
+  where
+    by : (v : ℤ) → IsAmong v xs ⊎ IsAmong v ys → IsOfType t v
+    by v (inl here) = one v here
+    by v (inr here) = other v here
+join_of_type t (Few xs) Any one other = tt
+join_of_type t Any b one other = tt

@@ -1,5 +1,7 @@
 -- Members: which numbers they allow, their order and their join.
-use Rattle.std.specs.Prelude.{◌<◌, ◌≤◌, Bool, true, false, ℤ, List, [], length, ◌≡◌}
+use Rattle.std.specs.Prelude.{◌<◌, ◌≤◌, Bool, true, false, ℤ, List, [], length, ◌≡◌, ◌⊎◌}
+use Rattle.po_arith.specs.declared.int_type.IntType.{IntType}
+use Rattle.po_arith.specs.Types.{IsOfType}
 use Rattle.po_interval.specs.Sets.{IsAmong, IsAscending, numbers_within, insert_all, few}
 use Rattle.po_interval.specs.declared.members.Members.{Members}
 use Rattle.po_interval.specs.declared.members.Members.TheVariants.{Few, Any}
@@ -13,6 +15,11 @@ Allows Any v = Unit {0}
 abbrev pub IsProper : Members → Type 0
 IsProper (Few xs) = (0 < length xs) × (length xs ≤ 8) × IsAscending xs
 IsProper Any = Unit {0}
+
+-- the numbers that are listed are numbers of the type
+abbrev pub AreOfType : IntType → Members → Type 0
+AreOfType t (Few xs) = (v : ℤ) → IsAmong v xs → IsOfType t v
+AreOfType t Any = Unit {0}
 
 -- each number that the first allow is one that the second allow
 abbrev pub AreWithin : Members → Members → Type 0
@@ -52,3 +59,8 @@ pub record JoinIsOfSets : Type 0 where
   pub commutes : (a b : Members) → IsProper a → IsProper b → join_members a b ≡ join_members b a
   pub associates : (a b c : Members) → IsProper a → IsProper b → IsProper c → join_members (join_members a b) c ≡ join_members a (join_members b c)
   pub idempotent : (a : Members) → IsProper a → join_members a a ≡ a
+
+-- a join that lists numbers lists those of the two and no others, so that numbers of a type are joined to numbers of the type
+pub record JoinIsOfBoth : Type 0 where
+  pub listed : (a b : Members) (zs : List ℤ) (v : ℤ) → join_members a b ≡ Few zs → IsAmong v zs → Allows a v ⊎ Allows b v
+  pub of_type : (t : IntType) (a b : Members) → AreOfType t a → AreOfType t b → AreOfType t (join_members a b)

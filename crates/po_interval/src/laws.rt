@@ -18,10 +18,11 @@ pub fn members_are_ordered()
 {}
 
 /// The join of members is their least upper bound within eight numbers; order, grouping and repetition don't
-/// matter. It does nothing.
+/// matter, and what it lists is listed by one of the two. It does nothing.
 pub fn join_of_members_is_least()
     ensures least { members.JoinIsLeast }
     ensures of_sets { members.JoinIsOfSets }
+    ensures of_both { members.JoinIsOfBoth }
 {}
 
 /// Each end is rounded to the nearest threshold. It does nothing.
