@@ -1,25 +1,21 @@
 -- Ranks of what is known: ends at thresholds, members, filled bytes, bases, values and states.
-use Rattle.std.specs.Prelude.{◌≡◌, ℕ, suc, ◌+◌, ◌-◌, ◌*◌, ◌<◌, ◌≤◌, ◌^◌, Bool, true, false, cond, not, ℤ, pos, negsuc, neg_ℤ, ◌+ℤ◌, ◌<ℤ◌, ◌≤ℤ◌, int_lt, List, [], ◌∷◌, ◌++◌, length, Option, Some, None, ◌⊎◌, ◌↔◌}
+use Rattle.std.specs.Prelude.{◌≡◌, ℕ, suc, ◌+◌, ◌-◌, ◌<◌, ◌≤◌, Bool, true, false, cond, ℤ, pos, negsuc, ◌<ℤ◌, ◌≤ℤ◌, int_lt, List, [], ◌∷◌, length, ◌⊎◌}
 use Rattle.std.proofs.Common.{refl, sym, ap, ◌∙◌, subst, arith, inl, inr}
-use Rattle.std.specs.List.{AllByRecursion, AllZip, sum_by, count_by}
+use Rattle.std.specs.List.{count_by}
 use Rattle.std.proofs.lemmas.List.Sums.{sum_by-cons, sum_by-le-sum_by}
 use Rattle.std.proofs.lemmas.Int.{ints, by_lt_z}
-use Rattle.std.proofs.lemmas.Bool.{cases_lt}
-use Rattle.std.specs.Cmp.{nat_cmp_total}
-use Rattle.std.specs.Ordering.{nat_cmp}
-use Rattle.po_base.specs.declared.numbers.NodeNo.{NodeNo}
 use Rattle.po_arith.specs.declared.interval.Interval.{Interval}
 use Rattle.po_interval.specs.declared.members.Members.{Members}
 use Rattle.po_interval.specs.declared.members.Members.TheVariants.{Few, Any}
-use Rattle.po_interval.specs.Sets.{IsAmong, IsBelowAll, IsAscending}
-use Rattle.po_interval.specs.Members.{Allows, IsProper, AreWithin, WithinIsExact}
-use Rattle.po_bases.specs.General.{IfThere, BelowFromNone, BelowNone, EachProper, Surely, Maybe, AtLeast}
-use Rattle.po_bases.specs.Intervals.{IsBetween, LowBelow, HighBelow}
+use Rattle.po_interval.specs.Sets.{IsAmong, IsAscending}
+use Rattle.po_interval.specs.Members.{IsProper, AreWithin, WithinIsExact}
+use Rattle.po_bases.specs.General.{IfThere, Surely, Maybe, AtLeast}
+use Rattle.po_bases.specs.Intervals.{IsBetween}
 use Rattle.po_bases.specs.Filled as bytes
 use Rattle.po_bases.specs.Filled.{IsFilled, FilledBelow, FactBelow}
 use Rattle.po_bases.specs.declared.filled.Filled.{Filled}
 use Rattle.po_bases.specs.declared.filled.Filled.TheVariants.{All, Bytes}
-use Rattle.po_astate.specs.Ranks.{IsRanked, ranked_among, ranked_below, ranked_alone, ranked_pairs, ranked_along, rank_from_none, rank_to_none, ranked_from_none, ranked_to_none, ranked_each, ranked_maps, map_rank}
+use Rattle.po_astate.specs.Ranks.{IsRanked, ranked_below, ranked_pairs, ranked_along, rank_to_none, ranked_to_none}
 
 -- ---- tests
 

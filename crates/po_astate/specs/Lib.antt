@@ -9,3 +9,4 @@ pub mod Ranks
 pub mod Heights
 pub mod Proper
 pub mod ProperRanks
+pub mod ProperStays

@@ -1,14 +1,14 @@
 -- The proper states of a function.
-use Rattle.std.specs.Prelude.{◌≡◌, ℕ, ◌<◌, Bool, true, false, ℤ, pos, List, [], ◌∷◌, length, Option, Some, None}
+use Rattle.std.specs.Prelude.{◌≡◌, ℕ, ◌<◌, Bool, true, false, ℤ, pos, List, length, Option, Some, None}
 use Rattle.std.specs.List.{AllByRecursion, AllZip}
 use Rattle.po_base.specs.declared.numbers.NodeNo.{NodeNo}
 use Rattle.po_arith.specs.declared.int_type.IntType.{IntType}
 use Rattle.po_arith.specs.declared.interval.Interval.{Interval}
-use Rattle.po_arith.specs.Types.{least, greatest, IsOfType}
-use Rattle.po_interval.specs.declared.members.Members.{Members}
-use Rattle.po_interval.specs.declared.members.Members.TheVariants.{Few, Any}
+use Rattle.po_arith.specs.Types.{least, greatest}
+use Rattle.po_interval.specs.declared.members.Members.TheVariants.{Any}
 use Rattle.po_interval.specs.declared.thresholds.Thresholds.{Thresholds}
 use Rattle.po_interval.specs.Sets.{IsAmong}
+use Rattle.po_interval.specs.Members.{AreOfType}
 use Rattle.po_interval.specs.Rounding.{IsThreshold}
 use Rattle.po_bases.specs.declared.base.Base.{Base}
 use Rattle.po_bases.specs.declared.base.Base.TheVariants.{Param, Slot, Global, Literal, Heap, Null}
@@ -69,10 +69,6 @@ abbrev pub ArePlaces : Shape → Bases → Type 0
 ArePlaces f (Known es) = AllByRecursion (IsPlace f) es
 ArePlaces f Unknown = Unit {0}
 
-abbrev pub AreOfType : IntType → Members → Type 0
-AreOfType t (Few xs) = (v : ℤ) → IsAmong v xs → IsOfType t v
-AreOfType t Any = Unit {0}
-
 abbrev pub IsRelOf : Shape → Rel → Type 0
 IsRelOf f None = Unit {0}
 IsRelOf f (Some p) = (p.0 < f.parameters) × IsRounded f p.1
@@ -96,3 +92,11 @@ abbrev pub IsProperState : Shape → AState → Type 0
 IsProperState f Bottom = Unit {0}
 IsProperState f (At regs slots heap freed wrote) =
     IsState (length f.types) f.slot_count (At regs slots heap freed wrote) × (AllZip (IsTyped f) f.types regs × AllByRecursion (IsBlock f) heap)
+
+-- 0 and both ends of the type of each register are among the coarse thresholds
+abbrev pub HasEndsOf : Shape → Option IntType → Type 0
+HasEndsOf f None = Unit {0}
+HasEndsOf f (Some t) = IsAmong (least t) f.thresholds.coarse × IsAmong (greatest t) f.thresholds.coarse
+
+abbrev pub HasEnds : Shape → Type 0
+HasEnds f = IsAmong (pos 0) f.thresholds.coarse × AllByRecursion (HasEndsOf f) f.types

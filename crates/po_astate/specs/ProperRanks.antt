@@ -1,6 +1,6 @@
 -- Each proper state of a function has a rank of at most a height, and a state strictly above another has the greater rank.
-use Rattle.std.specs.Prelude.{◌≡◌, ℕ, zero, suc, ◌+◌, ◌-◌, ◌*◌, ◌<◌, ◌≤◌, Bool, true, false, cond, ℤ, pos, negsuc, neg_ℤ, ◌+ℤ◌, ◌-ℤ◌, ◌<ℤ◌, ◌≤ℤ◌, List, [], ◌∷◌, ◌++◌, length, Option, Some, None, ◌⊎◌}
-use Rattle.std.proofs.Common.{refl, sym, ap, ◌∙◌, subst, arith, inl, inr}
+use Rattle.std.specs.Prelude.{◌≡◌, ℕ, zero, suc, ◌+◌, ◌-◌, ◌*◌, ◌<◌, ◌≤◌, Bool, false, ℤ, pos, ◌+ℤ◌, ◌<ℤ◌, ◌≤ℤ◌, List, [], ◌∷◌, ◌++◌, length, Option, Some, None, ◌⊎◌}
+use Rattle.std.proofs.Common.{refl, sym, ap, subst, arith, inl, inr}
 use Rattle.std.specs.List.{AllByRecursion, AllZip, sum_by}
 use Rattle.std.proofs.lemmas.Int.{ints, by_lt_z}
 use Rattle.std.proofs.lemmas.Bool.{cases_lt}
@@ -12,25 +12,24 @@ use Rattle.po_arith.specs.declared.interval.Interval.{Interval}
 use Rattle.po_interval.specs.Sets.{IsAmong}
 use Rattle.po_interval.specs.Members.{WithinIsExact}
 use Rattle.po_interval.specs.Rounding.{IsThreshold, least_fine, greatest_fine}
-use Rattle.po_interval.specs.declared.thresholds.Thresholds.{Thresholds}
 use Rattle.po_bases.specs.declared.base.Base.{Base}
 use Rattle.po_bases.specs.declared.entry.Entry.{Entry}
 use Rattle.po_bases.specs.declared.bases.Bases.{Bases}
 use Rattle.po_bases.specs.declared.bases.Bases.TheVariants.{Known, Unknown}
 use Rattle.po_bases.specs.declared.filled.Filled.{Filled}
 use Rattle.po_bases.specs.declared.heap_fact.HeapFact.{HeapFact}
-use Rattle.po_bases.specs.General.{IfThere, BelowFromNone, BelowNone, EachProper, Surely, Maybe, AtLeast}
+use Rattle.po_bases.specs.General.{IfThere, BelowFromNone, BelowNone, EachProper, Maybe, AtLeast}
 use Rattle.po_bases.specs.Intervals.{IsBetween}
 use Rattle.po_bases.specs.Maps.{IsMap, IsAscending, AreAfter, MapBelow}
 use Rattle.po_bases.specs.Base.{base_cmp, base_total, base_same}
 use Rattle.po_bases.specs.Bases.{IsGrain, IsEntry, EntryBelow, IsBases, BasesBelow}
-use Rattle.po_bases.specs.Filled.{IsFilled, FilledBelow, FactBelow, node_of, HeapEntryBelow, IsHeapEntry, HeapBelow}
+use Rattle.po_bases.specs.Filled.{IsFilled, FilledBelow, node_of, HeapEntryBelow, IsHeapEntry, HeapBelow}
 use Rattle.po_bases.specs.FilledLaws.{when_equal, when_less}
 use Rattle.po_astate.specs.Values.{Rel, RelBelow, IsValue, ValueBelow}
-use Rattle.po_astate.specs.States.{IsState, StateBelow}
-use Rattle.po_astate.specs.Ranks.{IsRanked, ranked_among, ranked_below, ranked_to, ranked_alone, ranked_pairs, ranked_along, rank_from_none, rank_to_none, ranked_from_none, ranked_to_none, ranked_each, ranked_maps, map_rank}
+use Rattle.po_astate.specs.States.{StateBelow}
+use Rattle.po_astate.specs.Ranks.{IsRanked, ranked_among, ranked_below, ranked_alone, ranked_pairs, ranked_along, rank_from_none, rank_to_none, ranked_from_none, ranked_to_none, ranked_each, ranked_maps, map_rank}
 use Rattle.po_astate.specs.Heights.{sure_rank, ranked_surely, maybe_rank, ranked_maybe, above_rank, AreEnds, interval_rank, ranked_intervals, ranked_sizes, members_rank, ranked_members, filled_rank, ranked_filled}
-use Rattle.po_astate.specs.Proper.{Shape, IsMaker, IsRoundedEnd, IsRounded, IsPlace, ArePlaces, IsRelOf, IsTyped, IsBlock, IsProperState}
+use Rattle.po_astate.specs.Proper.{Shape, IsRoundedEnd, IsRounded, IsPlace, ArePlaces, IsRelOf, IsTyped, IsBlock, IsProperState}
 use Rattle.po_astate.specs.declared.value.AValue.{AValue}
 use Rattle.po_astate.specs.declared.state.AState.{AState}
 use Rattle.po_astate.specs.declared.state.AState.TheVariants.{Bottom, At}

@@ -1,15 +1,15 @@
 -- Ranks of ordered values: a number of each that is at most a height, and greater for a value strictly above. Ranks of pairs,
 -- lists, maps and options are made from those of their parts.
-use Rattle.std.specs.Prelude.{◌≡◌, ℕ, suc, ◌+◌, ◌-◌, ◌*◌, ◌<◌, ◌≤◌, Bool, true, false, cond, List, [], ◌∷◌, length, Option, Some, None, ◌⊎◌, ◌↔◌}
+use Rattle.std.specs.Prelude.{◌≡◌, ℕ, suc, ◌+◌, ◌*◌, ◌<◌, ◌≤◌, List, [], ◌∷◌, length, Option, Some, None, ◌⊎◌}
 use Rattle.std.proofs.Common.{refl, sym, ap, ◌∙◌, subst, arith, inl, inr}
 use Rattle.std.proofs.Math.Nat.{mul-le-mul_right}
-use Rattle.std.specs.List.{AllByRecursion, AllZip, sum_by, count_by}
+use Rattle.std.specs.List.{AllByRecursion, AllZip, sum_by}
 use Rattle.std.proofs.lemmas.List.Sums.{sum_by-cons}
 use Rattle.std.specs.declared.cmp.Ordering.{Ordering}
-use Rattle.std.specs.declared.cmp.Ordering.TheVariants.{Less, Equal, Greater}
+use Rattle.std.specs.declared.cmp.Ordering.TheVariants.{Equal}
 use Rattle.std.specs.Cmp.{IsTotalOrder}
 use Rattle.po_bases.specs.General.{IfThere, BelowFromNone, BelowNone, EachProper}
-use Rattle.po_bases.specs.Maps.{IsMap, IsAscending, AreAfter, MapBelow, by_ordering, below_same, below_skipped, not_below, first_not_below}
+use Rattle.po_bases.specs.Maps.{IsMap, AreAfter, MapBelow, by_ordering, below_same, below_skipped, not_below, first_not_below}
 
 pub record IsRanked {S : Type 0} (Proper : S → Type 0) (Below : S → S → Type 0) (rank : S → ℕ) (height : ℕ) : Type 0 where
   pub bound : (x : S) → Proper x → rank x ≤ height

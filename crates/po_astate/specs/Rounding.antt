@@ -1,5 +1,5 @@
 -- States whose ends are rounded to thresholds: ranges, relations to arguments and offsets outwards, sizes of blocks downwards.
-use Rattle.std.specs.Prelude.{◌≡◌, ℕ, Bool, ℤ, pos, negsuc, List, [], ◌∷◌, Option, Some, None, map}
+use Rattle.std.specs.Prelude.{ℕ, Bool, ℤ, pos, negsuc, Option, Some, None, map}
 use Rattle.po_base.specs.declared.numbers.NodeNo.{NodeNo}
 use Rattle.po_arith.specs.declared.interval.Interval.{Interval}
 use Rattle.po_interval.specs.declared.thresholds.Thresholds.{Thresholds}

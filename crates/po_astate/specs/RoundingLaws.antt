@@ -1,10 +1,9 @@
 -- A rounded state is above the state, and rounding is monotone.
-use Rattle.std.specs.Prelude.{◌≡◌, ℕ, suc, ◌<◌, ◌≤◌, ◌^◌, Bool, true, false, cond, ℤ, pos, negsuc, ◌≤ℤ◌, int_le, List, [], ◌∷◌, length, Option, Some, None, map}
+use Rattle.std.specs.Prelude.{◌≡◌, ℕ, suc, ◌<◌, ◌≤◌, ◌^◌, Bool, true, false, cond, ℤ, pos, negsuc, ◌≤ℤ◌, List, [], ◌∷◌, length, Option, Some, None, map}
 use Rattle.std.proofs.Common.{refl, sym, ap, ◌∙◌, subst, arith}
 use Rattle.std.specs.List.{AllByRecursion, AllZip}
-use Rattle.std.specs.Option.{option_map, is_some}
+use Rattle.std.specs.Option.{option_map}
 use Rattle.std.specs.declared.cmp.Ordering.{Ordering}
-use Rattle.std.specs.declared.cmp.Ordering.TheVariants.{Less, Equal, Greater}
 use Rattle.std.specs.Ordering.{is_eq, nat_cmp}
 use Rattle.std.proofs.lemmas.Int.{ints}
 use lib.Dec.{T}
@@ -14,23 +13,22 @@ use Rattle.po_base.specs.declared.numbers.NodeNo.{NodeNo}
 use Rattle.po_arith.specs.declared.interval.Interval.{Interval}
 use Rattle.po_arith.specs.Hull.{IsInhabited}
 use Rattle.po_interval.specs.declared.thresholds.Thresholds.{Thresholds}
-use Rattle.po_interval.specs.Within.{is_lower, is_upper, interval_within}
 use Rattle.po_interval.specs.Rounding.{round, RoundingWidens}
 use Rattle.po_bases.specs.declared.entry.Entry.{Entry}
 use Rattle.po_bases.specs.declared.bases.Bases.{Bases}
 use Rattle.po_bases.specs.declared.bases.Bases.TheVariants.{Known, Unknown}
 use Rattle.po_bases.specs.declared.filled.Filled.{Filled}
 use Rattle.po_bases.specs.declared.heap_fact.HeapFact.{HeapFact}
-use Rattle.po_bases.specs.General.{IfThere, BelowFromNone, EachProper}
+use Rattle.po_bases.specs.General.{BelowFromNone}
 use Rattle.po_bases.specs.Intervals.{IsBetween, LowBelow, in_between}
-use Rattle.po_bases.specs.Maps.{find, IsAscending, AreAfter, IsMap, MapBelow}
+use Rattle.po_bases.specs.Maps.{find, IsAscending, AreAfter, MapBelow}
 use Rattle.po_bases.specs.Base.{base_cmp}
 use Rattle.po_bases.specs.Bases.{IsEntry, EntryBelow, IsBases, BasesBelow}
-use Rattle.po_bases.specs.Filled.{IsFilled, FilledBelow, IsFact, FactBelow, node_of, IsHeapEntry, HeapEntryBelow, IsHeap, HeapBelow}
-use Rattle.po_astate.specs.Values.{is_bounded, Rel, IsRel, RelBelow, bounded_rel, IsValue, ValueBelow}
+use Rattle.po_bases.specs.Filled.{FilledBelow, node_of, IsHeapEntry, HeapEntryBelow}
+use Rattle.po_astate.specs.Values.{is_bounded, Rel, IsRel, RelBelow, IsValue, ValueBelow}
 use Rattle.po_astate.specs.ValuesLaws.{between_tells, bounded_within}
 use Rattle.po_astate.specs.States.{IsState, StateBelow}
-use Rattle.po_astate.specs.Rounding.{round_rel, round_entry, round_bases, round_value, size_from, sizes, round_size, round_fact, round_heap_entry, round_state}
+use Rattle.po_astate.specs.Rounding.{round_rel, round_entry, round_bases, round_value, size_from, sizes, round_size, round_heap_entry, round_state}
 use Rattle.po_astate.specs.declared.value.AValue.{AValue}
 use Rattle.po_astate.specs.declared.state.AState.{AState}
 use Rattle.po_astate.specs.declared.state.AState.TheVariants.{Bottom, At}
@@ -75,7 +73,7 @@ module _ {E K : Type 0} (key : E → K) (cmp : K → K → Ordering) (f : E → 
       (subst (BelowFromNone B (option_map f (find key cmp xs k))) (sym (find-map ys k)) (both_changed B rises (find key cmp xs k) (find key cmp ys k) (below k)))
 
 module _ {S : Type 0} (f : S → S) where
-  all_changed : (P : S → Type 0) → ((x : S) → P x → P (f x)) → (xs : List S) → AllByRecursion P xs → AllByRecursion P (map f xs)
+  pub all_changed : (P : S → Type 0) → ((x : S) → P x → P (f x)) → (xs : List S) → AllByRecursion P xs → AllByRecursion P (map f xs)
   all_changed P stays [] p = tt
   all_changed P stays (x ∷ xs) p = (stays x p.0, all_changed P stays xs p.1)
 

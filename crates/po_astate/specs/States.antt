@@ -1,5 +1,5 @@
 -- What is known at a node: its form, its order and its joins, each part by itself.
-use Rattle.std.specs.Prelude.{◌≡◌, ℕ, Bool, true, false, not, ◌&&◌, ◌||◌, List, [], ◌∷◌, length, Option, Some, None}
+use Rattle.std.specs.Prelude.{ℕ, Bool, true, false, not, ◌&&◌, ◌||◌, List, Option, Some, None}
 use Rattle.std.specs.List.{AllZip}
 use Rattle.po_base.specs.declared.numbers.NodeNo.{NodeNo}
 use Rattle.po_bases.specs.declared.filled.Filled.{Filled}
@@ -9,7 +9,6 @@ use Rattle.po_bases.specs.Maps.{covered}
 use Rattle.po_bases.specs.Filled.{IsFilled, FilledBelow, join_filled, filled_within, fact_within, heap_cmp, IsHeap, HeapBelow, join_heap}
 use Rattle.po_astate.specs.Each.{each_within}
 use Rattle.po_astate.specs.Values.{IsValue, ValueBelow, value_within, join_values}
-use Rattle.po_astate.specs.declared.value.AValue.{AValue}
 use Rattle.po_astate.specs.declared.state.AState.{AState}
 use Rattle.po_astate.specs.declared.state.AState.TheVariants.{Bottom, At}
 

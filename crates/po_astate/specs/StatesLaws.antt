@@ -1,6 +1,6 @@
 -- States are ordered part by part, their join is the least upper bound, and the test tells the order.
-use Rattle.std.specs.Prelude.{◌≡◌, ℕ, Bool, true, false, cond, not, ◌&&◌, ◌||◌, List, [], ◌∷◌, length, Option, Some, None, ◌↔◌}
-use Rattle.std.proofs.Common.{refl, sym, ap, ◌∙◌, subst}
+use Rattle.std.specs.Prelude.{◌≡◌, ℕ, Bool, true, not, ◌&&◌, ◌||◌, List, [], ◌∷◌, Option, Some, None, ◌↔◌}
+use Rattle.std.proofs.Common.{refl, subst}
 use Rattle.std.specs.List.{AllByRecursion, AllZip}
 use Rattle.std.specs.Bool.{Decides}
 use Rattle.std.specs.Cmp.{nat_cmp_total}
@@ -12,7 +12,7 @@ use Rattle.po_bases.specs.declared.filled.Filled.{Filled}
 use Rattle.po_bases.specs.declared.heap_fact.HeapFact.{HeapFact}
 use Rattle.po_bases.specs.General.{IsJoin, IfThere, BelowFromNone, either_join, from_none, each, each_join, EachProper, Maybe, maybe, maybe_tells, pairs, along, renamed, reordered, rejoined, join_of_lesser, join_of_greater}
 use Rattle.po_bases.specs.Maps.{covered_tells}
-use Rattle.po_bases.specs.Filled.{IsFilled, FilledBelow, join_filled, filled_within, fact_within, node_of, heap_cmp, IsHeapEntry, HeapEntryBelow, IsHeap, HeapBelow, join_heap}
+use Rattle.po_bases.specs.Filled.{IsFilled, FilledBelow, node_of, IsHeapEntry, HeapEntryBelow, IsHeap, HeapBelow, join_heap}
 use Rattle.po_bases.specs.FilledLaws.{when_equal, filled_join, filled_tells, fact_tells, heaps_join}
 use Rattle.po_astate.specs.Each.{each_within}
 use Rattle.po_astate.specs.Values.{IsValue, ValueBelow, value_within, join_values}

@@ -1,9 +1,8 @@
 -- What is known of a register: the form of its parts, their order and their joins, each part by itself.
-use Rattle.std.specs.Prelude.{◌≡◌, ℕ, ◌≤◌, nat_eq, nat_le, Bool, true, false, cond, not, ◌&&◌, ◌||◌, ℤ, List, [], ◌∷◌, Option, Some, None}
+use Rattle.std.specs.Prelude.{◌≡◌, ℕ, nat_eq, nat_le, Bool, true, false, cond, not, ◌&&◌, ◌||◌, Option, Some, None}
 use Rattle.std.specs.Option.{is_some}
 use Rattle.po_arith.specs.declared.interval.Interval.{Interval}
 use Rattle.po_arith.specs.Hull.{IsInhabited, hull}
-use Rattle.po_interval.specs.declared.members.Members.{Members}
 use Rattle.po_interval.specs.Members.{IsProper, AreWithin, members_within, join_members}
 use Rattle.po_interval.specs.Within.{interval_within}
 use Rattle.po_bases.specs.declared.entry.Entry.{Entry}

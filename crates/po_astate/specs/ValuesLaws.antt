@@ -1,23 +1,22 @@
 -- Values of registers are ordered part by part, their join is the least upper bound, and the test tells the order.
 use Rattle.std.specs.Prelude.{◌≡◌, ℕ, nat_eq, nat_le, ◌≤ℤ◌, int_le, Bool, true, false, cond, not, ◌&&◌, ◌||◌, ℤ, Option, Some, None, ◌↔◌}
-use Rattle.std.proofs.Common.{refl, sym, ap, ◌∙◌, subst, arith}
+use Rattle.std.proofs.Common.{refl, sym, ◌∙◌, arith}
 use Rattle.std.specs.Option.{is_some}
 use Rattle.std.specs.Bool.{Decides}
-use Rattle.std.proofs.lemmas.Bool.Decides.{Decides-and, Decides-eqb, nat_tests}
+use Rattle.std.proofs.lemmas.Bool.Decides.{Decides-and, Decides-eqb}
 use Rattle.std.proofs.lemmas.Int.{ints}
 use Rattle.po_arith.specs.declared.interval.Interval.{Interval}
-use Rattle.po_arith.specs.Hull.{IsInhabited, hull, lower, upper}
-use Rattle.po_interval.specs.declared.members.Members.{Members}
+use Rattle.po_arith.specs.Hull.{IsInhabited, hull}
 use Rattle.po_interval.specs.Members.{IsProper, AreWithin, members_within, join_members, WithinIsExact, OneOfAll, JoinIsLeast}
 use Rattle.po_interval.specs.Within.{is_lower, is_upper, interval_within}
 use Rattle.po_bases.specs.declared.entry.Entry.{Entry}
 use Rattle.po_bases.specs.declared.bases.Bases.{Bases}
 use Rattle.po_bases.specs.declared.bases.Bases.TheVariants.{Known, Unknown}
-use Rattle.po_bases.specs.General.{IsJoin, IsPartialJoin, IfThere, BelowNone, both_join, Surely, surely, surely_tells, le_tells, pairs, along, renamed, reordered, rejoined, up_to_none, join_of_lesser, join_of_greater}
+use Rattle.po_bases.specs.General.{IsJoin, IsPartialJoin, IfThere, BelowNone, both_join, surely, surely_tells, le_tells, pairs, along, renamed, reordered, rejoined, up_to_none, join_of_lesser, join_of_greater}
 use Rattle.po_bases.specs.Intervals.{IsBetween, LowBelow, HighBelow, intervals}
 use Rattle.po_bases.specs.Maps.{covered_tells}
 use Rattle.po_bases.specs.Base.{base_cmp, base_total, base_same}
-use Rattle.po_bases.specs.Bases.{IsEntry, EntryBelow, IsBases, BasesBelow, join_bases}
+use Rattle.po_bases.specs.Bases.{IsEntry, EntryBelow, IsBases, BasesBelow}
 use Rattle.po_bases.specs.BasesLaws.{bases_join}
 use Rattle.po_astate.specs.Values.{is_bounded, Rel, IsRel, RelBelow, rel_within, bounded_rel, join_rel, entry_within, bases_within, IsValue, ValueBelow, value_within, join_values}
 use Rattle.po_astate.specs.declared.value.AValue.{AValue}

@@ -4,13 +4,15 @@ ghost use Rattle.po_astate.specs.States as states;
 ghost use Rattle.po_astate.specs.States.{IsState, StateBelow};
 ghost use Rattle.po_astate.specs.Rounding.{round_state};
 ghost use Rattle.po_astate.specs.Ranks.{IsRanked};
-ghost use Rattle.po_astate.specs.Proper.{Shape, IsProperState};
+ghost use Rattle.po_astate.specs.Proper.{Shape, IsProperState, HasEnds};
 ghost use Rattle.po_astate.specs.ProperRanks.{rank_of, height_of};
 ghost use Rattle.po_interval.specs.declared.thresholds.Thresholds.{Thresholds};
 ghost use Rattle.po_astate.specs.declared.state.AState.{AState};
 ghost use Rattle.po_astate.specs.declared.state.AState.TheVariants.{Bottom};
 
-use po_interval::{join_of_members_is_least, members_are_ordered, rounding_widens};
+use po_interval::{
+    join_of_members_is_least, members_are_ordered, rounding_is_to_the_nearest, rounding_widens,
+};
 
 /// `below_state` tells an order of the states of a function, in which `Bottom` is least, and `join_state` gives the least
 /// upper bound of two. It does nothing.
@@ -40,4 +42,16 @@ pub fn proper_states_have_ranks()
     ensures { (f : Shape) → IsRanked (IsProperState f) StateBelow (rank_of f) (height_of f) }
 {
     members_are_ordered();
+}
+
+/// The join of two proper states of a function is proper; so is a rounded one, where 0 and both ends of the type of each
+/// register are coarse thresholds. It does nothing.
+pub fn proper_states_stay_proper()
+    ensures joined { (f : Shape) (s u : AState) → IsProperState f s → IsProperState f u → IsProperState f (states.join_state s u) }
+    ensures rounded { (f : Shape) (s : AState) (head : Bool) → HasEnds f → IsProperState f s → IsProperState f (round_state s f.thresholds head) }
+{
+    members_are_ordered();
+    join_of_members_is_least();
+    rounding_is_to_the_nearest();
+    rounding_widens();
 }

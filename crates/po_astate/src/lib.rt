@@ -16,7 +16,10 @@ mod value;
 mod value_order;
 
 pub use bases_order::bases_within;
-pub use laws::{proper_states_have_ranks, rounded_states_are_above, states_are_joined};
+pub use laws::{
+    proper_states_have_ranks, proper_states_stay_proper, rounded_states_are_above,
+    states_are_joined,
+};
 pub use rounding::round_state;
 pub use state::AState;
 pub use state_order::{below_state, join_state};

@@ -1,6 +1,6 @@
-use Rattle.std.proofs.Common.{ℕ, ◌<◌, ◌≤◌, ◌^◌, rules, arith, sym, ap, ◌∙◌, FitsSigned, to_z, of_z, lit≤}
-use Rattle.std.specs.Prelude.{ℤ, pos, ◌≤ℤ◌, Some, None, ◌≡◌}
-use Rattle.std.proofs.lemmas.Int.{ints, to_z-of_z, to_z_pos}
+use Rattle.std.proofs.Common.{ℕ, ◌<◌, ◌≤◌, ◌^◌, rules, arith, sym, ap, ◌∙◌, FitsSigned, to_z, lit≤}
+use Rattle.std.specs.Prelude.{ℤ, pos, ◌≤ℤ◌, Some, ◌≡◌}
+use Rattle.std.proofs.lemmas.Int.{to_z-of_z, to_z_pos}
 use mir.Syntax.{w128}
 use Rattle.po_arith.specs.declared.interval.Interval.{Interval}
 use Rattle.po_interval.specs.Rounding.{low_end}
