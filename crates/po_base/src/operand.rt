@@ -1,7 +1,7 @@
 use crate::numbers::RegNo;
 
 /// An operand of an instruction: the value of a register, or a number.
-#[derive(Clone, Copy, Debug, PartialEq, Eq)]
+#[derive(Clone, Copy, Debug, PartialEq, Eq, Hash)]
 pub enum Opnd {
     Reg(RegNo),
     Num(i128),

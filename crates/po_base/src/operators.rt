@@ -1,5 +1,5 @@
 /// A binary operator of an instruction (C99 6.5.5 to 6.5.12).
-#[derive(Clone, Copy, Debug, PartialEq, Eq)]
+#[derive(Clone, Copy, Debug, PartialEq, Eq, Hash)]
 pub enum Op {
     Add,
     Sub,
@@ -20,7 +20,7 @@ pub enum Op {
 }
 
 /// A unary operator of an instruction (C99 6.5.3.3).
-#[derive(Clone, Copy, Debug, PartialEq, Eq)]
+#[derive(Clone, Copy, Debug, PartialEq, Eq, Hash)]
 pub enum UnOp {
     Neg,
     Not,

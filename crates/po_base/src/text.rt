@@ -1,4 +1,4 @@
-ghost use Rattle.std.specs.Prelude.{◌≡◌, IfOk, nat_eq, Some};
+ghost use Rattle.std.specs.Prelude.{◌≡◌, ◌≤◌, ◌-◌, IfOk, nat_eq, Some, take, drop, length};
 ghost use Rattle.std.specs.Ordering.{nat_cmp};
 ghost use Rattle.std.proofs.Common.{rules};
 ghost use Rattle.std.specs.Cmp.{partial_equiv_from_equiv};
@@ -12,20 +12,25 @@ use std::sync::ArcSlice;
 
 /// Bytes that never change, which contracts see as the list of them.
 ///
-/// The bytes stand once in memory, however often the text is handed on by [`Text::share`]: the name of a
-/// file stands in the spot of each node of its graphs. Texts are ordered byte by byte, a prefix first.
+/// A text is a range of bytes that stand once in memory, however many texts are parts of them: the tokens of a file share the
+/// file's bytes, and the name of a file stands in the spot of each node of its graphs. The whole is kept as long as one of
+/// its parts. Texts are ordered byte by byte, a prefix first.
 #[derive(Debug, Drop)]
 pub struct Text {
-    bytes: ArcSlice<u8>,
+    whole: ArcSlice<u8>,
+    from: usize,
+    to: usize,
 }
 
 impl Model for Text {
-    ghost use Rattle.std.specs.Prelude.{ℕ, List};
+    ghost use Rattle.std.specs.Prelude.{ℕ, List, take, drop, length, ◌-◌, ◌≤◌};
     ghost use Rattle.std.specs.Arc.{arc_slice_items};
 
     ghost Value = { List ℕ };
 
-    ghost view = { λ t. arc_slice_items t.bytes };
+    ghost view = { λ t. take (t.to - t.from) (drop t.from (arc_slice_items t.whole)) };
+
+    ghost invariant = { λ t. (t.from ≤ t.to) × (t.to ≤ length (arc_slice_items t.whole)) };
 }
 
 impl Text {
@@ -33,8 +38,24 @@ impl Text {
     pub fn new(alloc: Global, bytes: &[u8]) -> Result<Text, Memory>
         ensures { IfOk result (λ text. text ≡ bytes.now) }
     {
-        let bytes = ArcSlice::from_vec(Vec::from_slice(alloc, bytes)?)?;
-        Ok(Text { bytes })
+        let to = bytes.len();
+        let whole = ArcSlice::from_vec(Vec::from_slice(alloc, bytes)?)?;
+        Ok(Text { whole, from: 0, to })
+    }
+
+    /// The bytes from one place up to, not including, another, as a text that shares them: in constant time and without a copy.
+    /// `Memory` where the count of owners is full.
+    pub fn part(&self, from: usize, to: usize) -> Result<Text, Memory>
+        requires ascending { from ≤ to }
+        requires within { to ≤ length self.now }
+        ensures { IfOk result (λ text. text ≡ take (to - from) (drop from self.now)) }
+    {
+        let whole = self.whole.clone()?;
+        Ok(Text {
+            whole,
+            from: self.from + from,
+            to: self.from + to,
+        })
     }
 
     /// The same text once more, in constant time and without a copy of its bytes. `Memory` where the
@@ -42,15 +63,19 @@ impl Text {
     pub fn share(&self) -> Result<Text, Memory>
         ensures { IfOk result (λ text. text ≡ self.now) }
     {
-        let bytes = self.bytes.clone()?;
-        Ok(Text { bytes })
+        let whole = self.whole.clone()?;
+        Ok(Text {
+            whole,
+            from: self.from,
+            to: self.to,
+        })
     }
 
     /// The bytes.
     pub fn bytes(&self) -> &[u8]
         ensures { result.now ≡ self.now }
     {
-        &self.bytes
+        &self.whole[self.from..self.to]
     }
 }
 
