@@ -1,4 +1,4 @@
-use Rattle.std.proofs.Common.{rules, ◌≡◌, ◌≤◌, ◌-◌, ◌+◌, ℕ, List, take, drop, length, ap, ◌∙◌, sym, subst, arith}
+use Rattle.std.proofs.Common.{◌≤◌, ◌-◌, ◌+◌, take, drop, ap, ◌∙◌, sym}
 use Rattle.std.specs.Arc.{arc_slice_items}
 use Rattle.po_base.proofs.Parts.{take-part, within_part}
 use Rattle.po_base.proofs.text.Text.part.Goals as goal
