@@ -1,0 +1,6 @@
+//! What the graph of a typed function is.
+#![tactic(auto)]
+
+mod var;
+
+pub use var::Var;
