@@ -11,11 +11,10 @@ use Rattle.po_ir.specs.declared.instr.Ty.TheVariants.{Int, Ptr}
 use Rattle.po_ir.specs.declared.instr.Instr.{Instr}
 use Rattle.po_ir.specs.declared.instr.Instr.TheVariants as ins
 use Rattle.po_ir.specs.declared.graph.Node.{Node}
-use Rattle.po_ir.specs.Types.{is_shift}
 use Rattle.po_types.specs.declared.ctype.CType.{CType, out-CType}
 use Rattle.po_types.specs.declared.ctype.CType.TheOpen.{CType-F}
 use Rattle.po_lowering.specs.Typed.{Typed}
-use Rattle.po_lowering.specs.Types.{register_type, promotion, promoted, is_kept, fits, is_address, is_struct, pointee, access_of}
+use Rattle.po_lowering.specs.Types.{register_type, promoted, is_kept, fits, is_address, is_struct, pointee, access_of}
 use Rattle.po_lowering.specs.Temporaries.{State, At, Takes, reg, register}
 
 -- what a conversion does: nothing, a comparison with 0, or a Conv at an alignment
@@ -48,7 +47,7 @@ change_between f (CType-F.Ptr s) (CType-F.Ptr t) v = to_pointer f s t
 change_between f (CType-F.Array s n) (CType-F.Ptr t) v = to_pointer f s t
 change_between f _ _ v = nothing
 
-abbrev pub change : Typed → CType → CType → Opnd → Change
+unfoldable pub change : Typed → CType → CType → Opnd → Change
 change f from to v = change_between f (out-CType from) (out-CType to) v
 
 -- Converts f ns s a spot from to v w b t: the nodes from a to b convert v from one type to another, and w is the result
@@ -67,7 +66,7 @@ abbrev pub tested_in : CType-F CType → Ty
 tested_in (CType-F.Int t) = Int (promoted t)
 tested_in _ = Ptr
 
-abbrev pub tested : CType → Ty
+unfoldable pub tested : CType → Ty
 tested t = tested_in (out-CType t)
 
 -- the element size of a pointer
@@ -86,7 +85,7 @@ subtracts f true false t u v w r = ins.PtrAdd (reg r) v w (neg_ℤ (step_size f 
 subtracts f false second t u v w r = ins.Bin (reg r) op.Sub (register_type t) v w
 
 -- the node of a binary operator over converted operands of these types
-abbrev pub combines : Typed → Op → CType → CType → Opnd → Opnd → ℕ → Instr
+unfoldable pub combines : Typed → Op → CType → CType → Opnd → Opnd → ℕ → Instr
 combines f op.Add t u v w r = adds f (is_address t) (is_address u) t u v w r
 combines f op.Sub t u v w r = subtracts f (is_address t) (is_address u) t u v w r
 combines f operator t u v w r = ins.Bin (reg r) operator (register_type t) v w
@@ -97,16 +96,12 @@ signed_size f operator t = step_size f t
 
 abbrev pub step_of : Typed → Op → Bool → CType → Opnd → ℕ → Instr
 step_of f operator true t v r = ins.PtrAdd (reg r) v (o.Num (pos 1)) (signed_size f operator t)
-step_of f operator false t v r = ins.Bin (reg r) operator (tested t) v (o.Num (pos 1))
+step_of f operator false t v r = ins.Bin (reg r) operator (register_type t) v (o.Num (pos 1))
 
--- the node of `++` and `--`: 1 is added or subtracted
-abbrev pub steps : Typed → Op → CType → Opnd → ℕ → Instr
+-- the node of `++` and `--` over a value of the type: 1 is added or subtracted
+unfoldable pub steps : Typed → Op → CType → Opnd → ℕ → Instr
 steps f operator t v r = step_of f operator (is_address t) t v r
 
--- the type in which `lv op= e` computes: lv's for a pointer, its promotion for a shift, else that to which e is converted (6.5.16.2p3)
-abbrev pub computed_in : Op → CType → CType → CType
-computed_in operator t u = cond (is_address t) t (cond (is_shift operator) (promotion t) u)
-
 -- a value is written to memory; a struct is copied from its address
-abbrev pub store : Typed → CType → Opnd → Opnd → Instr
+unfoldable pub store : Typed → CType → Opnd → Opnd → Instr
 store f t to v = cond (is_struct t) (ins.CopyBytes to v (f.size t) (f.align t)) (ins.Store to v (access_of f t))

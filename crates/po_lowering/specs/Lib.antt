@@ -14,3 +14,4 @@ pub mod Completion
 pub mod Blocks
 pub mod Statements
 pub mod Functions
+pub mod Same

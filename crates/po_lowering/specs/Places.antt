@@ -36,7 +36,7 @@ abbrev pub next : Place → Place
 next p = further 1 1 p
 
 -- behind a part that begins at a place
-abbrev pub behind : Exp → Place → Place
+unfoldable pub behind : Exp → Place → Place
 behind x p = further (length (expressions x)) (length (flat x)) p
 
 abbrev pub behind_specs : List Specifier → Place → Place
@@ -45,19 +45,19 @@ behind_specs xs p = further (length (flat_map specifier_expressions xs)) (length
 abbrev pub behind_declarator : Declarator → Place → Place
 behind_declarator d p = further (length (declarator_expressions d)) (length (flat_declarator d)) p
 
-abbrev pub behind_init : Init → Place → Place
+unfoldable pub behind_init : Init → Place → Place
 behind_init x p = further (length (init_expressions x)) (length (flat_init x)) p
 
-abbrev pub behind_part : (Declarator × Option Init) → Place → Place
+unfoldable pub behind_part : (Declarator × Option Init) → Place → Place
 behind_part x p = further (length (part_expressions x)) (length (flat_part x)) p
 
 abbrev pub behind_decl : Decl → Place → Place
 behind_decl d p = further (length (decl_expressions d)) (length (flat_decl d)) p
 
-abbrev pub behind_stmt : Stmt → Place → Place
+unfoldable pub behind_stmt : Stmt → Place → Place
 behind_stmt x p = further (length (stmt_expressions x)) (length (flat_stmt x)) p
 
-abbrev pub behind_all : List Stmt → Place → Place
+unfoldable pub behind_all : List Stmt → Place → Place
 behind_all xs p = further (length (flat_map stmt_expressions xs)) (length (flat_map flat_stmt xs)) p
 
 -- the Word of a declarator stands behind its stars

@@ -26,8 +26,8 @@ abbrev pub node : Instr → Spot → Node
 node instr spot = record { instr = instr; spot = spot }
 
 -- the node at a place
-abbrev pub At : List Node → ℕ → Instr → Spot → Type 0
-At ns a instr spot = slice_get ns a ≡ Some (node instr spot)
+pub record At (ns : List Node) (a : ℕ) (instr : Instr) (spot : Spot) : Type 0 where
+  pub here : slice_get ns a ≡ Some (node instr spot)
 
 -- Row ns a xs b: these nodes stand from a on, up to b
 pub data Row (ns : List Node) : ℕ → List Node → ℕ → Type 0 where

@@ -41,19 +41,19 @@ pub record Typed : Type 0 where
   pub texts : ℕ
 
 -- the type of the expression whose head stands at a place
-abbrev pub type_at : Typed → Place → CType
+unfoldable pub type_at : Typed → Place → CType
 type_at f p = get_or f.types p.number c.Void
 
 -- the type of an expression that begins at a place, and the type that it is converted to
-abbrev pub type_of : Typed → Exp → Place → CType
+unfoldable pub type_of : Typed → Exp → Place → CType
 type_of f x p = type_at f (head_of x p)
 
-abbrev pub conversion_of : Typed → Exp → Place → CType
+unfoldable pub conversion_of : Typed → Exp → Place → CType
 conversion_of f x p = get_or f.conversions (head_of x p).number c.Void
 
 abbrev pub marked : FunTree → (ℕ × ℕ) → Spot
 marked tree (name, line) = record { file = get_or tree.names name []; line = line }
 
 -- the file and the line of the token at a place
-abbrev pub spot_at : Typed → Place → Spot
+unfoldable pub spot_at : Typed → Place → Spot
 spot_at f p = marked f.tree (get_or f.tree.marks p.token (0, 0))

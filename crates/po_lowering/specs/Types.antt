@@ -15,7 +15,7 @@ abbrev pub held : CType-F CType → Ty
 held (CType-F.Int t) = Int t
 held _ = Ptr
 
-abbrev pub register_type : CType → Ty
+unfoldable pub register_type : CType → Ty
 register_type t = held (out-CType t)
 
 abbrev pub is_scalar_in : CType-F CType → Bool
@@ -78,13 +78,6 @@ int = record { bits = 32; signed = true }
 -- integers narrower than int become int (6.3.1.1p2)
 abbrev pub promoted : IntType → IntType
 promoted t = cond (nat_lt t.bits 32) int t
-
-abbrev pub promotion_in : CType-F CType → CType → CType
-promotion_in (CType-F.Int t) u = c.Int (promoted t)
-promotion_in _ u = u
-
-abbrev pub promotion : CType → CType
-promotion t = promotion_in (out-CType t) t
 
 abbrev pub is_kept_of : Bool → Bool → ℕ → ℕ → Bool
 is_kept_of false false m n = nat_le m n
