@@ -30,7 +30,7 @@ abbrev right_or : {A B : Type 0} → B → Option (A × B) → B
 right_or d None = d
 right_or d (Some z) = z.1
 
-abbrev some_or : {A : Type 0} → A → Option A → A
+abbrev pub some_or : {A : Type 0} → A → Option A → A
 some_or d None = d
 some_or d (Some z) = z
 

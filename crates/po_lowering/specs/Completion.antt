@@ -94,3 +94,18 @@ counting _ = 0
 -- how many declarators stand in a statement
 unfoldable pub declarators : Stmt → ℕ
 declarators = fold-Stmt ℕ counting
+
+abbrev pub case_counting : Stmt-F ℕ → ℕ
+case_counting (Stmt-F.Block xs) = sum_of xs
+case_counting (Stmt-F.If x then_ else_) = then_ + or_zero else_
+case_counting (Stmt-F.While x body) = body
+case_counting (Stmt-F.Do body x) = body
+case_counting (Stmt-F.For first test step body) = body
+case_counting (Stmt-F.Case x body) = suc body
+case_counting (Stmt-F.Default body) = body
+case_counting (Stmt-F.Label name body) = body
+case_counting _ = 0
+
+-- how many cases of the switch around it stand in a statement
+unfoldable pub cases_in : Stmt → ℕ
+cases_in = fold-Stmt ℕ case_counting

@@ -109,34 +109,34 @@ pub data Letters (f : Typed) (ns : List Node) : State → ℕ → Spot → SlotN
       Reaches ns s a spot k (way ++ element n (f.size t) ∷ []) v i s1 → Converts f ns s1 i spot (c.Int int) t (o.Num z) w j s2 →
       At ns j (store f t v w) spot → Letters f ns s2 (j + 1) spot k way t (n + 1) rest b u → Letters f ns s a spot k way t n (z ∷ rest) b u
 
--- Gives f sc ns s a spot k way t x p b u: the nodes from a to b give the part of the slot k, which has type t, what the initialiser x at the
--- place p gives: address and Store for each scalar, CopyBytes for a struct's expression
+-- Gives f sc ns s a spot k way t g p b u: the nodes from a to b give the part of the slot k, which has type t, what the initialiser at the place
+-- p gives it: address and Store for each scalar, CopyBytes for a struct's expression
 mutual
-  pub data Gives (f : Typed) (sc : Scope) (ns : List Node) : State → ℕ → Spot → SlotNo → List Step → CType → Init → Place → ℕ → State → Type 0 where
-    one_value : {s s1 u : State} {a i j n : ℕ} {spot : Spot} {k : SlotNo} {way : List Step} {t : CType} {x : Init} {p : Place} {y : Exp} {v w : Opnd} →
-        given f t x ≡ Some (value y n) → Reaches ns s a spot k way v i s1 → Operand f sc ns s1 i y (skip n p) w j u → At ns j (store f t v w) spot →
-        Gives f sc ns s a spot k way t x p (j + 1) u
-    a_text : {s u : State} {a b : ℕ} {spot : Spot} {k : SlotNo} {way : List Step} {t e : CType} {x : Init} {p : Place} {count : Option ℕ}
-        {texts : List (List ℕ)} {bytes : List ℕ} → given f t x ≡ Some (text e count texts) → Spells texts bytes →
-        Letters f ns s a spot k way e 0 (characters_given count bytes) b u → Gives f sc ns s a spot k way t x p b u
-    all_elements : {s u : State} {a b : ℕ} {spot : Spot} {k : SlotNo} {way : List Step} {t e : CType} {x : Init} {p : Place} {xs : List Init} →
-        given f t x ≡ Some (elements e xs) → Elements f sc ns s a spot k way e 0 xs (skip 1 p) b u → Gives f sc ns s a spot k way t x p b u
-    all_members : {s u : State} {a b : ℕ} {spot : Spot} {k : SlotNo} {way : List Step} {t : CType} {x : Init} {p : Place} {parts : List Part} {xs : List Init} →
-        given f t x ≡ Some (members parts xs) → Members f sc ns s a spot k way parts xs (skip 1 p) b u → Gives f sc ns s a spot k way t x p b u
+  pub data Gives (f : Typed) (sc : Scope) (ns : List Node) : State → ℕ → Spot → SlotNo → List Step → CType → Given → Place → ℕ → State → Type 0 where
+    one_value : {s s1 u : State} {a i j n : ℕ} {spot : Spot} {k : SlotNo} {way : List Step} {t : CType} {p : Place} {y : Exp} {v w : Opnd} →
+        Reaches ns s a spot k way v i s1 → Operand f sc ns s1 i y (skip n p) w j u → At ns j (store f t v w) spot →
+        Gives f sc ns s a spot k way t (value y n) p (j + 1) u
+    a_text : {s u : State} {a b : ℕ} {spot : Spot} {k : SlotNo} {way : List Step} {t e : CType} {p : Place} {count : Option ℕ}
+        {texts : List (List ℕ)} {bytes : List ℕ} → Spells texts bytes → Letters f ns s a spot k way e 0 (characters_given count bytes) b u →
+        Gives f sc ns s a spot k way t (text e count texts) p b u
+    all_elements : {s u : State} {a b : ℕ} {spot : Spot} {k : SlotNo} {way : List Step} {t e : CType} {p : Place} {xs : List Init} →
+        Elements f sc ns s a spot k way e 0 xs (skip 1 p) b u → Gives f sc ns s a spot k way t (elements e xs) p b u
+    all_members : {s u : State} {a b : ℕ} {spot : Spot} {k : SlotNo} {way : List Step} {t : CType} {p : Place} {parts : List Part} {xs : List Init} →
+        Members f sc ns s a spot k way parts xs (skip 1 p) b u → Gives f sc ns s a spot k way t (members parts xs) p b u
 
   -- the elements from the n-th on
   pub data Elements (f : Typed) (sc : Scope) (ns : List Node) : State → ℕ → Spot → SlotNo → List Step → CType → ℕ → List Init → Place → ℕ → State → Type 0 where
     no_more_elements : {s : State} {a n : ℕ} {spot : Spot} {k : SlotNo} {way : List Step} {t : CType} {p : Place} → Elements f sc ns s a spot k way t n [] p a s
-    one_more_element : {s s1 u : State} {a i b n : ℕ} {spot : Spot} {k : SlotNo} {way : List Step} {t : CType} {x : Init} {xs : List Init} {p : Place} →
-        Gives f sc ns s a spot k (way ++ element n (f.size t) ∷ []) t x p i s1 → Elements f sc ns s1 i spot k way t (n + 1) xs (skip 1 (behind_init x p)) b u →
-        Elements f sc ns s a spot k way t n (x ∷ xs) p b u
+    one_more_element : {s s1 u : State} {a i b n : ℕ} {spot : Spot} {k : SlotNo} {way : List Step} {t : CType} {g : Given} {x : Init} {xs : List Init} {p : Place} →
+        given f t x ≡ Some g → Gives f sc ns s a spot k (way ++ element n (f.size t) ∷ []) t g p i s1 →
+        Elements f sc ns s1 i spot k way t (n + 1) xs (skip 1 (behind_init x p)) b u → Elements f sc ns s a spot k way t n (x ∷ xs) p b u
 
   -- the members that are given; further ones may follow
   pub data Members (f : Typed) (sc : Scope) (ns : List Node) : State → ℕ → Spot → SlotNo → List Step → List Part → List Init → Place → ℕ → State → Type 0 where
     no_more_members : {s : State} {a : ℕ} {spot : Spot} {k : SlotNo} {way : List Step} {parts : List Part} {p : Place} → Members f sc ns s a spot k way parts [] p a s
-    one_more_member : {s s1 u : State} {a i b : ℕ} {spot : Spot} {k : SlotNo} {way : List Step} {part : Part} {parts : List Part} {x : Init} {xs : List Init} {p : Place} →
-        Gives f sc ns s a spot k (way ++ member part.offset ∷ []) part.type x p i s1 → Members f sc ns s1 i spot k way parts xs (skip 1 (behind_init x p)) b u →
-        Members f sc ns s a spot k way (part ∷ parts) (x ∷ xs) p b u
+    one_more_member : {s s1 u : State} {a i b : ℕ} {spot : Spot} {k : SlotNo} {way : List Step} {part : Part} {parts : List Part} {g : Given} {x : Init} {xs : List Init} {p : Place} →
+        given f part.type x ≡ Some g → Gives f sc ns s a spot k (way ++ member part.offset ∷ []) part.type g p i s1 →
+        Members f sc ns s1 i spot k way parts xs (skip 1 (behind_init x p)) b u → Members f sc ns s a spot k way (part ∷ parts) (x ∷ xs) p b u
 
 abbrev pub is_list_in : Init-F Init → Bool
 is_list_in (Init-F.One x) = false
@@ -162,5 +162,5 @@ pub data Initialises (f : Typed) (sc : Scope) (ns : List Node) : State → ℕ �
   -- an initialiser is an assignment
   register_initialised : {s u : State} {a i n : ℕ} {spot : Spot} {r : RegNo} {t : CType} {x : Init} {p : Place} {y : Exp} {v : Opnd} → given f t x ≡ Some (value y n) →
       Operand f sc ns s a y (skip n p) v i u → At ns i (put r.0 v) spot → Initialises f sc ns s a spot (var.Reg r) t (Some x) p (i + 1) u
-  slot_initialised : {s u : State} {a i b : ℕ} {spot : Spot} {k : SlotNo} {t : CType} {x : Init} {p : Place} → Fills ns a spot k (f.size t) (fills f t x) i →
-      Gives f sc ns s i spot k [] t x p b u → Initialises f sc ns s a spot (var.Slot k) t (Some x) p b u
+  slot_initialised : {s u : State} {a i b : ℕ} {spot : Spot} {k : SlotNo} {t : CType} {g : Given} {x : Init} {p : Place} → Fills ns a spot k (f.size t) (fills f t x) i →
+      given f t x ≡ Some g → Gives f sc ns s i spot k [] t g p b u → Initialises f sc ns s a spot (var.Slot k) t (Some x) p b u

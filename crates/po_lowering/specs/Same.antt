@@ -2,12 +2,15 @@
 use Rattle.std.specs.Prelude.{ℕ, ◌≤◌, ◌<◌, ◌≡◌, List, slice_get, Bool}
 use Rattle.po_base.specs.declared.operand.Opnd.{Opnd}
 use Rattle.po_ir.specs.declared.graph.Node.{Node}
+use Rattle.po_ir.specs.declared.graph.Graph.{Graph}
+use Rattle.po_ir.specs.declared.project.Global.{Global}
 use Rattle.po_tree.specs.declared.expression.Exp.{Exp}
 use Rattle.po_lowering.specs.Places.{Place}
 use Rattle.po_lowering.specs.Typed.{Typed}
 use Rattle.po_lowering.specs.Temporaries.{State}
 use Rattle.po_lowering.specs.Naming.{Scope}
 use Rattle.po_lowering.specs.Forms.{Layer}
+use Rattle.po_lowering.specs.Functions.{IsGraph}
 use Rattle.po_lowering.specs.Expressions.{Value, Operand, Address, Unused, Condition}
 
 -- two graphs have the same nodes from a to b
@@ -47,3 +50,8 @@ OneUnused = (f : Typed) (c : Scope) (ns ms : List Node) (s t u : State) (a b d :
 abbrev pub OneCondition : Type 0
 OneCondition = (f : Typed) (c : Scope) (ns ms : List Node) (s t u : State) (a hit miss b d : ℕ) (x : Layer) (p : Place) →
     Condition f c ns s a x p hit miss b t → Condition f c ms s a x p hit miss d u → SameRange ns ms a b t d u
+
+-- a typed definition has one graph, with one list of statics and one of literals
+abbrev pub OneGraph : Type 0
+OneGraph = (f : Typed) (g h : Graph) (statics others : List Global) (texts writings : List (List ℕ)) →
+    IsGraph f g statics texts → IsGraph f h others writings → (g ≡ h) × (statics ≡ others) × (texts ≡ writings)

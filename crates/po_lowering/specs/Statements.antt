@@ -1,10 +1,10 @@
 -- The nodes of statements and declarations in blocks (C99 6.8).
-use Rattle.std.specs.Prelude.{ℕ, ◌+◌, ◌≡◌, ℤ, List, [], ◌∷◌, ◌++◌, length, flat_map, slice_get, Option, Some, None}
+use Rattle.std.specs.Prelude.{ℕ, ◌+◌, ◌≡◌, ℤ, List, [], ◌∷◌, ◌++◌, length, map, flat_map, slice_get, Option, Some, None}
 use Rattle.po_base.specs.declared.operand.Opnd.{Opnd}
 use Rattle.po_ir.specs.declared.instr.Instr.TheVariants as ins
 use Rattle.po_ir.specs.declared.graph.Node.{Node}
 use Rattle.po_arith.specs.declared.int_type.IntType.{IntType}
-use Rattle.po_arith.specs.Types.{IsWrapped}
+use Rattle.po_arith.specs.Types.{IsIntType, IsWrapped}
 use Rattle.po_tree.specs.declared.expression.Exp.{Exp, out-Exp}
 use Rattle.po_tree.specs.declared.expression.Declarator.{Declarator}
 use Rattle.po_tree.specs.declared.declaration.Init.{Init}
@@ -23,7 +23,7 @@ use Rattle.po_lowering.specs.Naming.{Scope}
 use Rattle.po_lowering.specs.Storage.{kept_as, text_of_name}
 use Rattle.po_lowering.specs.Expressions.{Value, Operand, Unused, Condition}
 use Rattle.po_lowering.specs.Initialisers.{Initialises}
-use Rattle.po_lowering.specs.Completion.{completes, all_complete, labelled, first_of_name}
+use Rattle.po_lowering.specs.Completion.{completes, all_complete, labelled, first_of_name, cases_in, sum_of}
 use Rattle.po_lowering.specs.Blocks.{decl_at, items_at, enters, slots_of, leaves, leaves_where, slots_left, case_tests, default_or, jump_where}
 
 -- What stands around a statement: where `break` and `continue` go, and how many blocks of the body they don't leave; the slots of the
@@ -141,9 +141,9 @@ mutual
         Runs f ns (looping b (length l.blocks) k (inside (slots_of f (decl_at s.declared (skip 2 p) d)) l)) sc' s2 j (out-Stmt y) (for_body (fi.Variables d) test step p) k s3 →
         Maybe f sc' ns s3 k step (for_step (fi.Variables d) test p) m t → At ns m (ins.Jump (to i)) (spot_at f p) →
         Row ns (m + 1) (leaves (spot_at f p) (slots_of f (decl_at s.declared (skip 2 p) d))) b → Runs f ns l sc s a (Stmt-F.For (fi.Variables d) test step y) p b t
-    -- switch: value, Enters of its block, one `If Eq` per case in order, Jump to default or to the end of the block before its Leaves, block
+    -- switch: value, Enters of its block, one `If Eq` for each of its cases in order, Jump to default or to the end of the block before its Leaves, block
     switch_block : {l : Around} {sc : Scope} {s s1 t : State} {a i j k e b : ℕ} {x : Exp} {y : Stmt} {xs : List Stmt} {v : Opnd} {p q : Place} → out-Stmt y ≡ Stmt-F.Block xs →
-        q ≡ skip 2 (behind x (skip 2 p)) → Value f sc ns (fresh s) a (out-Exp x) (skip 2 p) v i s1 → Row ns i (enters f (items_at s.declared q xs)) j →
+        q ≡ skip 2 (behind x (skip 2 p)) → length t.cases ≡ sum_of (map cases_in xs) → Value f sc ns (fresh s) a (out-Exp x) (skip 2 p) v i s1 → Row ns i (enters f (items_at s.declared q xs)) j →
         Row ns j (case_tests j (tested (type_of f x (skip 2 p))) v (spot_at f p) t.cases) k → At ns k (ins.Jump (to (default_or t.default_case e))) (spot_at f p) →
         Items f ns (inside (slots_of f (items_at s.declared q xs)) (switching b l)) sc (no_cases s1) (k + 1) xs q e t →
         Row ns e (leaves (spot_at f (behind_all xs q)) (slots_of f (items_at s.declared q xs))) b → Runs f ns l sc s a (Stmt-F.Switch x y) p b (cases_of s t)
@@ -151,9 +151,9 @@ mutual
     switch_other : {l : Around} {sc : Scope} {s s1 t : State} {a i b : ℕ} {x : Exp} {y : Stmt} {v : Opnd} {p : Place} → IsNoBlock (out-Stmt y) →
         Value f sc ns (fresh s) a (out-Exp x) (skip 2 p) v i s1 → At ns i (ins.Jump (to b)) (spot_at f p) →
         Runs f ns (switching b l) sc (no_cases s1) (i + 1) (out-Stmt y) (skip 1 (behind x (skip 2 p))) b t → Runs f ns l sc s a (Stmt-F.Switch x y) p b (cases_of s t)
-    -- a case's constant is converted to the promoted type of the switch's expression (6.8.4.2p5)
+    -- a case's constant is converted to the promoted type of the switch's expression (6.8.4.2p5), which is an integer type
     case : {l : Around} {sc : Scope} {s t : State} {a b : ℕ} {x : Exp} {y : Stmt} {m : ℤ} (n : ℤ) {ty : IntType} {p : Place} →
-        f.constants (head_of x (skip 1 p)).number ≡ Some m → integer_of (conversion_of f x (skip 1 p)) ≡ Some ty → IsWrapped ty m n →
+        f.constants (head_of x (skip 1 p)).number ≡ Some m → integer_of (conversion_of f x (skip 1 p)) ≡ Some ty → IsIntType ty → IsWrapped ty m n →
         Runs f ns l sc (with_case n a s) a (out-Stmt y) (skip 1 (behind x (skip 1 p))) b t → Runs f ns l sc s a (Stmt-F.Case x y) p b t
     default : {l : Around} {sc : Scope} {s t : State} {a b : ℕ} {y : Stmt} {p : Place} → Runs f ns l sc (with_default a s) a (out-Stmt y) (skip 2 p) b t →
         Runs f ns l sc s a (Stmt-F.Default y) p b t
