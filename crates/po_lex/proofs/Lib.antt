@@ -8,3 +8,4 @@ mod Widths
 mod Unique
 mod Divisions
 mod Longest
+mod Lines

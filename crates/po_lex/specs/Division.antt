@@ -3,7 +3,7 @@ use Rattle.std.specs.Prelude.{ℕ, ◌≡◌, ◌+◌, ◌-◌, ◌^◌, ◌<◌
 use Rattle.po_base.specs.declared.token.TokenKind.{TokenKind}
 use Rattle.po_base.specs.declared.token.Token.{Token}
 use Rattle.po_base.specs.declared.token.Tokens.{Tokens}
-use Rattle.po_lex.specs.Bytes.{newlines}
+use Rattle.po_lex.specs.Bytes.{newlines, is_gap}
 use Rattle.po_lex.specs.Rows.{skip}
 use Rattle.po_lex.specs.Leads.{lead_of, opening, row_of, closing, kind_of}
 use Rattle.po_lex.specs.Directives.{says, is_proper}
@@ -38,7 +38,7 @@ pub record Stands (fresh : Bool) (bytes : List ℕ) (part : Part) (rest : List �
 -- whether only spaces and tabs stand on the line up to the end of these bytes
 abbrev pub freshly : Bool → List ℕ → Bool
 freshly fresh [] = fresh
-freshly fresh (c ∷ cs) = freshly ((c == 10) || (((c == 32) || (c == 9)) && fresh)) cs
+freshly fresh (c ∷ cs) = freshly ((c == 10) || (is_gap c && fresh)) cs
 
 -- the number of the line after this one
 abbrev pub next_line : Effect → ℕ → ℕ
