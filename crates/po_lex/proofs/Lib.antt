@@ -9,3 +9,5 @@ mod Unique
 mod Divisions
 mod Longest
 mod Lines
+mod Selected
+mod Placed

@@ -1,5 +1,6 @@
 -- The division of a file's bytes into blanks, comments, directives and tokens, and the tokens of a division.
 use Rattle.std.specs.Prelude.{ℕ, ◌≡◌, ◌+◌, ◌-◌, ◌^◌, ◌<◌, ◌≤◌, ◌≢◌, Bool, true, ◌==◌, ◌&&◌, ◌||◌, List, [], ◌∷◌, ◌++◌, length, drop, Option, Some, None, slice_index}
+use Rattle.std.specs.List.{All}
 use Rattle.po_base.specs.declared.token.TokenKind.{TokenKind}
 use Rattle.po_base.specs.declared.token.Token.{Token}
 use Rattle.po_base.specs.declared.token.Tokens.{Tokens}
@@ -99,6 +100,10 @@ pub record AreTokens (name bytes : List ℕ) (tokens : Tokens) : Type 0 where
   pub list : tokens.list ≡ tokens_of start parts
   pub names : tokens.names ≡ name ∷ names_of parts
   pub few : length tokens.list ≤ 2 ^ 22
+
+-- the file of each token is a place among the names
+abbrev pub ArePlaced : Tokens → Type 0
+ArePlaced tokens = All (λ t. t.file < length tokens.names) tokens.list
 
 -- no part stands at the front of the bytes
 abbrev pub NoneStands : Bool → List ℕ → Type 0

@@ -2,7 +2,7 @@ ghost use Rattle.std.specs.Prelude.{ℕ, ◌≡◌, ◌+◌, ◌-◌, ◌<◌, �
 ghost use Rattle.po_base.specs.declared.token.Token.{Token as Placed};
 ghost use Rattle.po_lex.specs.Bytes.{newlines};
 ghost use Rattle.po_lex.specs.Leads.{kind_of};
-ghost use Rattle.po_lex.specs.Division.{Part, AreTokens, Divides, Fails, HasTooMany, as_token, is_directive, moved, named_by, next_line, start, tokens_of};
+ghost use Rattle.po_lex.specs.Division.{Part, AreTokens, ArePlaced, Divides, Fails, HasTooMany, as_token, is_directive, moved, named_by, next_line, start, tokens_of};
 ghost use Rattle.po_lex.specs.Lexing.{IsKept, IsRead, HasCause, failure};
 ghost use Rattle.po_lex.specs.declared.lexing.LexFail.TheVariants.{Memory as NoMemory};
 
@@ -209,6 +209,7 @@ fn no_part(place: &Place, bytes: &[u8]) -> LexFail
 pub fn tokens(alloc: Global, name: &Text, bytes: &[u8]) -> Result<Tokens, LexFail>
     requires { length bytes.now ≤ 2 ^ 24 }
     ensures tokens { IfOk result (λ tokens. AreTokens name.now bytes.now tokens) }
+    ensures placed { IfOk result (λ tokens. ArePlaced tokens) }
     ensures fail { IfErr result (λ fail. HasCause bytes.now fail) }
 {
     let file = Text::new(alloc, bytes)?;

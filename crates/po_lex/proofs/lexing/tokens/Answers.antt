@@ -1,9 +1,11 @@
 use Rattle.std.proofs.Common.{◌≡◌, ℕ, List, [], ◌∷◌, ◌++◌, ◌≤◌, ◌+◌, ◌-◌, ◌<◌, ◌^◌, length, take, drop, arith, sym, ap, ◌∙◌, refl, subst}
 use Rattle.std.proofs.lemmas.List.{drop_all, drop-drop, length-drop, length-take, take_all}
 use Rattle.po_lex.specs.Bytes.{newlines}
-use Rattle.po_lex.specs.Division.{Part, Stands, NoneStands, Divides, start, next_line, named_by, moved}
+use Rattle.po_lex.specs.Division.{Part, AreTokens, ArePlaced, Stands, NoneStands, Divides, start, next_line, named_by, moved}
 use Rattle.po_lex.specs.Lexing.{IsRead}
 use Rattle.po_lex.proofs.Fronts.{step, next_small, few_named, few_lines, fails_there, all_read, too_many}
+use Rattle.std.proofs.lemmas.Result.{IfOk-weaker}
+use Rattle.po_lex.proofs.Placed.{placed}
 use Rattle.po_lex.proofs.lexing.tokens.Goals as goal
 
 -- the text of a part, in the file's bytes and in those that are left of them
@@ -64,3 +66,7 @@ pub returns-clause-fail : goal.returns-clause-fail
 returns-clause-fail c =
     too_many c.args.name.now c.args.bytes.now (drop c.loop-at.at c.args.bytes.now) c.loop-at.invariant.read.0 c.loop-at.lexer c.loop-at.invariant.read.1 c.loop-at.invariant.read.2
     (drop_all c.loop-at.at c.args.bytes.now c.loop-at-test.false) c.finish.result c.finish.ensures.fail
+
+pub returns-clause-placed : goal.returns-clause-placed
+returns-clause-placed c =
+    IfOk-weaker c.finish.result (AreTokens c.args.name.now c.args.bytes.now) ArePlaced (placed c.args.name.now c.args.bytes.now) (returns-clause-tokens c)
