@@ -207,7 +207,9 @@ impl Lead {
     {
         match self {
             Lead::Word | Lead::Number | Lead::Char | Lead::Str | Lead::Directive => 0,
-            Lead::Blank | Lead::Joined | Lead::Comment | Lead::Remark | Lead::Sign => newlines(text),
+            Lead::Blank | Lead::Joined | Lead::Comment | Lead::Remark | Lead::Sign => newlines(
+                text,
+            ),
         }
     }
 }
