@@ -1,5 +1,5 @@
 -- The states that belong to a project, and those in which a run starts.
-use Rattle.std.specs.Prelude.{ℕ, ◌+◌, ◌*◌, ◌≡◌, ◌≢◌, ◌≤◌, ◌<◌, ℤ, List, [], ◌∷◌, ◌++◌, All, Bool, true, false, not, Option, Some, None, length, map, take, slice_get}
+use Rattle.std.specs.Prelude.{ℕ, ◌+◌, ◌*◌, ◌≡◌, ◌≢◌, ◌≤◌, ◌<◌, ℤ, List, [], ◌∷◌, ◌++◌, All, true, false, not, Option, Some, length, map, take, slice_get}
 use Rattle.po_base.specs.declared.numbers.FunNo.{FunNo}
 use Rattle.po_base.specs.declared.numbers.RegNo.{RegNo}
 use Rattle.po_base.specs.declared.numbers.SlotNo.{SlotNo}
@@ -7,7 +7,6 @@ use Rattle.po_base.specs.declared.operand.Opnd.{Opnd}
 use Rattle.po_arith.specs.declared.target.Target.{Target}
 use Rattle.po_ir.specs.declared.graph.Reg.{Reg as Register}
 use Rattle.po_ir.specs.declared.graph.Slot.{Slot}
-use Rattle.po_ir.specs.declared.graph.Graph.{Graph}
 use Rattle.po_ir.specs.declared.instr.Ty.{Ty}
 use Rattle.po_ir.specs.declared.instr.Ty.TheVariants.{Ptr}
 use Rattle.po_ir.specs.declared.instr.Callee.TheVariants.{Fun}

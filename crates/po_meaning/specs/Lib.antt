@@ -8,3 +8,4 @@ pub mod Checks
 pub mod Runs
 pub mod Needs
 pub mod Belongs
+pub mod Shown

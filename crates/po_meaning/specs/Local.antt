@@ -1,10 +1,7 @@
 -- The steps of instructions that stay in their frame: what becomes of the frame and of the blocks.
-use Rattle.std.specs.Prelude.{ℕ, ◌+◌, ◌≡◌, ◌≤◌, ℤ, pos, ◌-ℤ◌, ◌*ℤ◌, int_div, List, [], ◌∷◌, ◌++◌, Bool, true, false, not, cond, Option, Some, None, length, replicate, slice_get}
-use Rattle.po_base.specs.declared.numbers.RegNo.{RegNo}
-use Rattle.po_base.specs.declared.numbers.SlotNo.{SlotNo}
+use Rattle.std.specs.Prelude.{ℕ, ◌+◌, ◌≡◌, ◌≤◌, ℤ, pos, ◌-ℤ◌, ◌*ℤ◌, int_div, List, [], ◌∷◌, ◌++◌, Bool, true, false, not, cond, Some, None, length, replicate, slice_get}
 use Rattle.po_base.specs.declared.operators.Op.{Op}
 use Rattle.po_base.specs.declared.operand.Opnd.{Opnd}
-use Rattle.po_arith.specs.declared.int_type.IntType.{IntType}
 use Rattle.po_arith.specs.Types.{IsWrapped}
 use Rattle.po_interval.specs.Results.{truth, binary, unary, conv}
 use Rattle.po_ir.specs.declared.graph.Graph.{Graph}
@@ -21,7 +18,7 @@ use Rattle.po_memory.specs.declared.block.Block.{Block}
 use Rattle.po_memory.specs.declared.frame.Frame.{Frame}
 use Rattle.po_memory.specs.declared.value.Byte.TheVariants.{Blank}
 use Rattle.po_memory.specs.declared.value.Value.{Value}
-use Rattle.po_memory.specs.declared.value.Value.TheVariants.{Number, Null, Pointer, Wild}
+use Rattle.po_memory.specs.declared.value.Value.TheVariants.{Number, Pointer}
 use Rattle.po_memory.specs.Values.{moved, register_value}
 use Rattle.po_memory.specs.Accesses.{Loads, Stores, Copies, Fills, Kills}
 use Rattle.po_meaning.specs.Operands.{pointer_value, value_at, Is, as_value, slot_block, at_node, onward, put, without_value, with_block}

@@ -1,5 +1,5 @@
 -- What a frame needs on its way on: registers that are read before they are written, slots that are used before they are entered.
-use Rattle.std.specs.Prelude.{ℕ, zero, suc, ◌≡◌, Option, Some, Contains}
+use Rattle.std.specs.Prelude.{ℕ, zero, suc, ◌≡◌, Some, Contains}
 use Rattle.po_base.specs.declared.numbers.RegNo.{RegNo}
 use Rattle.po_base.specs.declared.numbers.SlotNo.{SlotNo}
 use Rattle.po_base.specs.declared.operand.Opnd.TheVariants as operand

@@ -4,7 +4,7 @@ use Rattle.std.specs.Ordering.{int_eq}
 use Rattle.po_base.specs.declared.operators.Op.{Op}
 use Rattle.po_base.specs.declared.operators.Op.TheVariants as op
 use Rattle.po_memory.specs.declared.value.Value.{Value}
-use Rattle.po_memory.specs.declared.value.Value.TheVariants.{Number, Null, Pointer, Wild}
+use Rattle.po_memory.specs.declared.value.Value.TheVariants.{Number, Null, Pointer}
 
 -- whether the comparison holds of two numbers (6.5.8p6, 6.5.9p3)
 abbrev pub compares : Op → ℤ → ℤ → Bool

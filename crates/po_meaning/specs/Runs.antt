@@ -1,6 +1,5 @@
 -- Steps, runs and their ends.
-use Rattle.std.specs.Prelude.{ℕ, zero, suc, ◌≡◌, ◌⊎◌, List, [], Option}
-use Rattle.po_base.specs.declared.operand.Opnd.{Opnd}
+use Rattle.std.specs.Prelude.{ℕ, zero, suc, ◌≡◌, ◌⊎◌, List, []}
 use Rattle.po_ir.specs.declared.instr.Instr.{Instr}
 use Rattle.po_ir.specs.declared.instr.Instr.TheVariants.{Lib, Return}
 use Rattle.po_ir.specs.declared.project.Function.{Function}

@@ -1,5 +1,5 @@
 -- The states of a run.
-use Rattle.std.specs.Prelude.{◌-◌, ◌≡◌, ◌++◌, List, [], ◌∷◌, Option, Some, None, map, take, length, replicate, slice_get}
+use Rattle.std.specs.Prelude.{◌-◌, ◌≡◌, ◌++◌, List, ◌∷◌, Option, Some, None, map, take, length, replicate, slice_get}
 use Rattle.po_base.specs.declared.numbers.FunNo.{FunNo}
 use Rattle.po_ir.specs.declared.instr.Instr.{Instr}
 use Rattle.po_ir.specs.declared.project.Function.{Function}
@@ -34,9 +34,9 @@ start_registers f args = map Some (take f.graph.params args) ++ replicate (lengt
 -- a frame at node 0 of a function with these arguments (6.5.2.2p4, 6.2.4p5)
 abbrev pub start_frame : FunNo → Function → List Value → Frame
 start_frame n f args = record {
-    function = n;
-    node = record { 0 = 0 };
-    regs = start_registers f args;
-    slots = replicate (length f.graph.slots) None;
-    args = args
-  }
+  function = n;
+  node = record { 0 = 0 };
+  regs = start_registers f args;
+  slots = replicate (length f.graph.slots) None;
+  args = args;
+}
