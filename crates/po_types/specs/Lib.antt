@@ -6,3 +6,4 @@ pub mod Layouts
 pub mod Spelling
 pub mod Formats
 pub mod TypesLaws
+pub mod Laws
