@@ -4,7 +4,7 @@ use Rattle.po_arith.specs.declared.int_type.IntType.{IntType}
 use Rattle.po_arith.specs.declared.target.Target.{Target}
 use Rattle.po_tree.specs.declared.expression.Specifier.{Specifier}
 use Rattle.po_tree.specs.declared.expression.Specifier.TheVariants as sp
-use Rattle.po_tree.specs.Words.{type_words}
+use Rattle.po_tree.specs.Words.{type_words, storage_classes}
 use Rattle.po_types.specs.declared.ctype.CType.{CType}
 use Rattle.po_types.specs.declared.ctype.CType.TheVariants as c
 use Rattle.po_types.specs.Integers.{signed_type, unsigned_type, bool_type, char_type, int_type, long_type, size_type}
@@ -13,6 +13,10 @@ use Rattle.po_types.specs.Types.{signature}
 -- the word stands among the specifiers
 abbrev pub HasWord : List ℕ → List Specifier → Type 0
 HasWord word specs = Contains specs (sp.Word word)
+
+-- storage classes and `inline` stand among the specifiers only where they are allowed (6.7.1, 6.7.4)
+abbrev pub OnlyWords : List (List ℕ) → List Specifier → Type 0
+OnlyWords allowed specs = (word : List ℕ) → Contains (codes "inline" ∷ storage_classes) word → HasWord word specs → Contains allowed word
 
 -- a storage class, a qualifier or `inline`
 abbrev pub IsPlainWord : Specifier → Type 0

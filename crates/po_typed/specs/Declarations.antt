@@ -29,7 +29,7 @@ use Rattle.po_types.specs.Layouts.{IsLayout}
 use Rattle.po_types.specs.Tables.{found}
 use Rattle.po_typed.specs.Scopes.{Context, Block, Storage, automatic, in_register, in_static, Meaning, global, function, local, type_name, constant, Tag, struct_tag, enum_tag, meaning, tag_meaning, word_here, tag_here, IsNew, with_blocks, within_innermost, with_word, with_tag, in_new_block, back_in, with_struct, next_struct, completed}
 use Rattle.po_typed.specs.Operands.{IsComplete}
-use Rattle.po_typed.specs.BaseTypes.{HasWord, IsPlainWord, IsWordType, starred, CanBeStarred, RestrictFits}
+use Rattle.po_typed.specs.BaseTypes.{HasWord, OnlyWords, IsPlainWord, IsWordType, starred, CanBeStarred, RestrictFits}
 use Rattle.po_typed.specs.Expressions.{Pair, IsArray, IsConstant}
 use Rattle.po_typed.specs.Initialisers.{Initialises, static_place}
 
@@ -37,10 +37,6 @@ use Rattle.po_typed.specs.Initialisers.{Initialises, static_place}
 pub data Says (P : Type 0) : Bool → Type 0 where
   it_holds : P → Says P true
   it_fails : (P → ⊥) → Says P false
-
--- the words of this list stand among the specifiers only where they are allowed (6.7.1, 6.7.4)
-abbrev pub OnlyWords : List (List ℕ) → List Specifier → Type 0
-OnlyWords allowed specs = (word : List ℕ) → Contains (codes "inline" ∷ storage_classes) word → HasWord word specs → Contains allowed word
 
 abbrev pub IsNoStorage : Specifier → Type 0
 IsNoStorage s = (word : List ℕ) → s ≡ sp.Word word → Contains storage_classes word → ⊥

@@ -23,7 +23,7 @@ use Rattle.po_types.specs.declared.format.Spec.TheVariants as f
 use Rattle.po_typed.specs.Scopes.{Context, Storage, automatic, in_register, in_static, Meaning, global, function, local, type_name, constant, Tag, struct_tag, enum_tag, meaning, tag_meaning}
 use Rattle.po_typed.specs.Operands.{IsComplete, value_type, Tested, Stepped, Combines, shift_operators, arithmetic_operators, equality_operators, comparisons, compound_operators}
 use Rattle.po_typed.specs.Constants.{IsNumber, IsCharacterOf, AreStrings, Becomes, Kept, Computes, Shifts, Compares, complemented}
-use Rattle.po_typed.specs.BaseTypes.{IsPlainWord, IsWordType, starred, CanBeStarred, RestrictFits}
+use Rattle.po_typed.specs.BaseTypes.{OnlyWords, IsPlainWord, IsWordType, starred, CanBeStarred, RestrictFits}
 
 -- the type of an expression and the type to which it is converted
 pub record Pair : Type 0 where
@@ -83,8 +83,8 @@ pub data IsBase (ctx : Context) : List Specifier → CType → Type 0 where
 
 -- a type name without arrays (6.7.6)
 pub data IsPlainName (ctx : Context) : TypeName → CType → Type 0 where
-  plain_name : (specs : List Specifier) (stars : List (List (List ℕ))) (t : CType) → IsBase ctx specs t → RestrictFits specs t → CanBeStarred stars t →
-      IsPlainName ctx (record { specs = specs; declarator = record { stars = stars; name = None; suffix = su.Plain } }) (starred t stars)
+  plain_name : (specs : List Specifier) (stars : List (List (List ℕ))) (t : CType) → OnlyWords [] specs → IsBase ctx specs t → RestrictFits specs t →
+      CanBeStarred stars t → IsPlainName ctx (record { specs = specs; declarator = record { stars = stars; name = None; suffix = su.Plain } }) (starred t stars)
 
 -- the constant 0: one number of value 0, in parentheses, under `+`, or under casts to integer types (6.3.2.3p3)
 pub data IsNull (ctx : Context) : Exp → Type 0 where
@@ -256,7 +256,7 @@ mutual
   pub data Named (ctx : Context) : TypeName → CType → List Pair → Type 0 where
     named_plain : (name : TypeName) (t : CType) → IsPlainName ctx name t → Named ctx name t []
     named_array : (specs : List Specifier) (stars : List (List (List ℕ))) (sizes : List (Option Exp)) (t u : CType) (ps : List Pair) →
-        IsBase ctx specs t → RestrictFits specs t → CanBeStarred stars t → IsArray ctx (starred t stars) sizes u ps →
+        OnlyWords [] specs → IsBase ctx specs t → RestrictFits specs t → CanBeStarred stars t → IsArray ctx (starred t stars) sizes u ps →
         Named ctx (record { specs = specs; declarator = record { stars = stars; name = None; suffix = su.Arrays sizes } }) u ps
 
   -- IsArray ctx element sizes t: arrays of the element type; without a size only the first one (6.7.5.2)

@@ -24,10 +24,10 @@ use Rattle.po_types.specs.Integers.{promoted}
 use Rattle.po_typed.specs.Scopes.{Context, Block, Storage, automatic, in_register, in_static, Meaning, function, local, with_word, with_blocks, IsNew, in_new_block, back_in, word_here}
 use Rattle.po_typed.specs.Operands.{IsComplete, Tested}
 use Rattle.po_typed.specs.Constants.{Becomes}
-use Rattle.po_typed.specs.BaseTypes.{RestrictFits, CanBeStarred, starred}
+use Rattle.po_typed.specs.BaseTypes.{OnlyWords, RestrictFits, CanBeStarred, starred}
 use Rattle.po_typed.specs.Expressions.{Pair, Types, Operand, Assigned, IsBase, IsArray, IsConstant, Constant}
 use Rattle.po_typed.specs.Initialisers.{Place, static_place, automatic_place, Initialises}
-use Rattle.po_typed.specs.Declarations.{OnlyWords, HasStorage, Specified, IsResult, IsVoidAlone, Listed, File, with_context}
+use Rattle.po_typed.specs.Declarations.{HasStorage, Specified, IsResult, IsVoidAlone, Listed, File, with_context}
 
 -- the labels of a statement that stand in no inner block (6.8.1)
 abbrev pub has_own_labels : Stmt-F (List (List ℕ)) → List (List ℕ)
