@@ -1,5 +1,5 @@
 -- Where each variable of a body is kept: in a register, in a slot, or as a global.
-use Rattle.std.specs.Prelude.{ℕ, suc, ◌+◌, List, [], ◌∷◌, ◌++◌, map, length, codes, slice_get, Option, Some, None, Bool, true, false, cond, not, ◌||◌, ◌&&◌}
+use Rattle.std.specs.Prelude.{ℕ, suc, ◌+◌, List, [], ◌∷◌, ◌++◌, map, length, codes, slice_get, take, Option, Some, None, Bool, true, false, cond, not, ◌||◌, ◌&&◌}
 use Rattle.po_ir.specs.declared.graph.Reg.{Reg as Register}
 use Rattle.po_ir.specs.declared.graph.Slot.{Slot}
 use Rattle.po_ir.specs.declared.project.Global.{Global}
@@ -145,8 +145,9 @@ abbrev pub named_params : Suffix-F Exp Specifier Suffix Declarator Member Param 
 named_params (Suffix-F.Params params more) = params
 named_params _ = []
 
+-- the parameters of the definition; `(void)` declares none
 abbrev pub params_of : Typed → List Param
-params_of f = named_params (out-Suffix f.tree.declarator.suffix)
+params_of f = take (length f.parameters) (named_params (out-Suffix f.tree.declarator.suffix))
 
 abbrev pub name_of_param : Param → Option (List ℕ)
 name_of_param x = (out-Param x).declarator.name

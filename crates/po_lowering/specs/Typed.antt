@@ -24,7 +24,8 @@ pub record Typed : Type 0 where
   -- of each expression, in the order of their heads: its type, and the type that it is converted to
   pub types : List CType
   pub conversions : List CType
-  -- by the number of an expression: the value of a constant, a sizeof or an enumerator; the arguments that a format reads by `%s`
+  -- by the number of an expression: the value of a constant, a sizeof, an enumerator or a case's expression; for a call of printf, which of its
+  -- arguments its format reads by `%s`
   pub constants : ℕ → Option ℤ
   pub strings : ℕ → List ℕ
   -- of the parameters, and of the body's declarators in their order
