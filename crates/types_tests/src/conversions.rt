@@ -39,7 +39,13 @@ fn each_pair_of_promoted_types_meets_in_one(rt: HostRuntime) {
 #[test]
 fn narrow_types_are_promoted_to_int(rt: HostRuntime) {
     let wide = [signed(32), unsigned(32), signed(64), unsigned(64)];
-    for narrow in [unsigned(1), signed(8), unsigned(8), signed(16), unsigned(16)] {
+    for narrow in [
+        unsigned(1),
+        signed(8),
+        unsigned(8),
+        signed(16),
+        unsigned(16),
+    ] {
         assert!(rt; promoted(narrow) == signed(32));
         assert!(rt; meet(narrow, narrow, signed(32)));
         for other in wide {

@@ -1,6 +1,8 @@
 use po_arith::{IntType, Target};
 use po_base::{List, Memory, Text};
-use po_types::{CHAR, CType, Env, Layout, Shared, Table, align_of, composite, decayed, same, size_of};
+use po_types::{
+    CHAR, CType, Env, Layout, Shared, Table, align_of, composite, decayed, same, size_of,
+};
 use std::alloc::Global;
 use std::test::Fail;
 
@@ -27,8 +29,10 @@ fn measures(alloc: Global, t: &CType, size: Option<u64>, align: u64) -> Result<b
         offsets: List::new(alloc),
     }))?;
     structs.push(None)?;
-    Ok(size_of(Target::L64, structs.as_slice(), t) == size
-        && align_of(Target::L64, structs.as_slice(), t) == align)
+    Ok(
+        size_of(Target::L64, structs.as_slice(), t) == size
+            && align_of(Target::L64, structs.as_slice(), t) == align,
+    )
 }
 
 #[test]
@@ -41,12 +45,33 @@ fn types_have_their_sizes_and_alignments(rt: HostRuntime) -> Result<(), Fail> {
     assert!(rt; measures(alloc, &CType::Struct(1), None, 1)?);
     let row = array(alloc, CType::Int(IntType::INT), Some(5))?;
     assert!(rt; measures(alloc, &array(alloc, row, Some(3))?, Some(60), 4)?);
-    assert!(rt; measures(alloc, &array(alloc, CType::Struct(0), Some(2))?, Some(48), 8)?);
+    assert!(rt;
+        measures(
+            alloc,
+            &array(alloc, CType::Struct(0), Some(2))?,
+            Some(48),
+            8
+        )?
+    );
     assert!(rt; measures(alloc, &array(alloc, CType::Int(CHAR), None)?, None, 1)?);
     assert!(rt; measures(alloc, &array(alloc, CType::Int(CHAR), Some(0))?, None, 1)?);
     let most = 9223372036854775807;
-    assert!(rt; measures(alloc, &array(alloc, CType::Int(CHAR), Some(most))?, Some(most), 1)?);
-    assert!(rt; measures(alloc, &array(alloc, CType::Int(CHAR), Some(most + 1))?, None, 1)?);
+    assert!(rt;
+        measures(
+            alloc,
+            &array(alloc, CType::Int(CHAR), Some(most))?,
+            Some(most),
+            1
+        )?
+    );
+    assert!(rt;
+        measures(
+            alloc,
+            &array(alloc, CType::Int(CHAR), Some(most + 1))?,
+            None,
+            1
+        )?
+    );
     let wide = array(alloc, stars(alloc, 1)?, Some(most))?;
     assert!(rt; measures(alloc, &array(alloc, wide, Some(most))?, None, 8)?);
     Ok(())
@@ -61,12 +86,18 @@ fn types_with_many_stars_are_shared_compared_and_dropped(rt: HostRuntime) -> Res
 }
 
 #[test]
-fn an_array_decays_and_takes_its_size_from_another_declaration(rt: HostRuntime) -> Result<(), Fail> {
+fn an_array_decays_and_takes_its_size_from_another_declaration(
+    rt: HostRuntime,
+) -> Result<(), Fail> {
     let alloc = rt.alloc();
     let bare = array(alloc, CType::Int(IntType::INT), None)?;
     let sized = array(alloc, CType::Int(IntType::INT), Some(3))?;
-    assert!(rt; same(&decayed(&sized)?, &stars(alloc, 1)?) && same(&decayed(&CType::Void)?, &CType::Void));
-    assert!(rt; same(&composite(&bare, &sized)?, &sized) && same(&composite(&sized, &bare)?, &sized));
+    assert!(rt;
+        same(&decayed(&sized)?, &stars(alloc, 1)?) && same(&decayed(&CType::Void)?, &CType::Void)
+    );
+    assert!(rt;
+        same(&composite(&bare, &sized)?, &sized) && same(&composite(&sized, &bare)?, &sized)
+    );
     Ok(())
 }
 
