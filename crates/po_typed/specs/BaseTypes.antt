@@ -1,6 +1,5 @@
 -- What words, stars and qualifiers make of a type (C99 6.7.2, 6.7.3, 6.7.5.1).
-use Rattle.std.specs.Prelude.{ℕ, ◌*◌, ◌≡◌, ◌≢◌, IsPermutation, List, [], ◌∷◌, codes, Contains, Option, Some, None}
-use Rattle.po_arith.specs.declared.int_type.IntType.{IntType}
+use Rattle.std.specs.Prelude.{ℕ, ◌≡◌, ◌≢◌, IsPermutation, List, [], ◌∷◌, codes, Contains, Option, None}
 use Rattle.po_arith.specs.declared.target.Target.{Target}
 use Rattle.po_tree.specs.declared.expression.Specifier.{Specifier}
 use Rattle.po_tree.specs.declared.expression.Specifier.TheVariants as sp

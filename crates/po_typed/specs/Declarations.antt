@@ -1,6 +1,6 @@
 -- Which declarations have a typing, and what is in force behind them (C99 6.7). Context by context: what stands first in a declaration is in
 -- force in what stands behind it.
-use Rattle.std.specs.Prelude.{ℕ, suc, ◌≡◌, ◌≢◌, ◌⊎◌, Bool, true, false, ◌||◌, List, [], ◌∷◌, ◌++◌, map, flat_map, codes, Contains, All, nat_eq, Option, Some, None, IsSome, ℤ, pos, ◌+ℤ◌}
+use Rattle.std.specs.Prelude.{ℕ, suc, ◌≡◌, ◌≢◌, Bool, true, false, ◌||◌, List, [], ◌∷◌, ◌++◌, map, flat_map, codes, Contains, All, nat_eq, Option, Some, None, IsSome, ℤ, pos, ◌+ℤ◌}
 use Rattle.std.specs.Cmp.Lexicographic.{pointwise}
 use Rattle.std.specs.Map.{set_value}
 use Rattle.po_arith.specs.declared.int_type.IntType.{IntType}
@@ -27,7 +27,7 @@ use Rattle.po_types.specs.Integers.{int_type}
 use Rattle.po_types.specs.Types.{size_of, align_of, layout_of, as_object, signature, Agree, composite}
 use Rattle.po_types.specs.Layouts.{IsLayout}
 use Rattle.po_types.specs.Tables.{found}
-use Rattle.po_typed.specs.Scopes.{Context, Block, Storage, automatic, in_register, in_static, Meaning, global, function, local, type_name, constant, Tag, struct_tag, enum_tag, meaning, tag_meaning, word_here, tag_here, IsNew, with_blocks, within_innermost, with_word, with_tag, in_new_block, back_in, with_struct, next_struct, completed}
+use Rattle.po_typed.specs.Scopes.{Context, automatic, in_register, Meaning, global, function, local, type_name, constant, struct_tag, enum_tag, meaning, tag_meaning, word_here, tag_here, IsNew, with_blocks, within_innermost, with_word, with_tag, in_new_block, back_in, with_struct, next_struct, completed}
 use Rattle.po_typed.specs.Operands.{IsComplete}
 use Rattle.po_typed.specs.BaseTypes.{HasWord, OnlyWords, IsPlainWord, IsWordType, starred, CanBeStarred, RestrictFits}
 use Rattle.po_typed.specs.Expressions.{Pair, IsArray, IsConstant}
@@ -253,7 +253,7 @@ pub data Part : File → Option (List ℕ) → Bool → CType → Bool → Decla
       Names (with_context file inner) name t u n mid → (Contains file.initialised name → ⊥) →
       Introduces mid.context (tags_in (init_expressions x)) own → Initialises own static_place t x v qs → Agree u v →
       Part file class false base const (d, Some x)
-        (record { context = retold name (global (composite u v) n) own; objects = mid.objects; initialised = name ∷ mid.initialised })
+      (record { context = retold name (global (composite u v) n) own; objects = mid.objects; initialised = name ∷ mid.initialised })
 
 pub data Parts : File → Option (List ℕ) → Bool → CType → Bool → List (Declarator × Option Init) → File → Type 0 where
   no_more_parts : (file : File) (class : Option (List ℕ)) (inline const : Bool) (base : CType) → Parts file class inline base const [] file

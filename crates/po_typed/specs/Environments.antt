@@ -1,11 +1,10 @@
 -- An environment lists what is in force at file level; each of its lists has its part of that, in order.
-use Rattle.std.specs.Prelude.{ℕ, ◌≡◌, ◌↔◌, Bool, List, [], ◌∷◌, ◌++◌, map, flat_map, Contains, Option, Some, None, ℤ}
+use Rattle.std.specs.Prelude.{ℕ, ◌≡◌, ◌↔◌, Bool, List, [], ◌∷◌, map, flat_map, Contains, Option, Some, None, ℤ}
 use Rattle.po_base.specs.declared.numbers.GlobalNo.{GlobalNo}
-use Rattle.po_tree.specs.declared.function.FunTree.{FunTree}
 use Rattle.po_types.specs.declared.ctype.CType.{CType}
 use Rattle.po_types.specs.declared.env.Env.{Env}
 use Rattle.po_typed.specs.declared.typed.TypedFun.{TypedFun}
-use Rattle.po_typed.specs.Scopes.{Context, Block, Meaning, global, function, local, type_name, constant, Tag, struct_tag, enum_tag}
+use Rattle.po_typed.specs.Scopes.{Block, Meaning, global, function, type_name, constant, Tag, struct_tag, enum_tag}
 use Rattle.po_typed.specs.Expressions.{Pair}
 use Rattle.po_typed.specs.Declarations.{File}
 use Rattle.po_typed.specs.Statements.{Defines}

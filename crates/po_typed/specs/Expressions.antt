@@ -1,7 +1,6 @@
 -- Which expressions have a typing, and which (C99 6.5, 6.6). `Types ctx x t to pairs`: the expression has the type t, and is converted to
 -- `to`, which what it stands in has chosen; `pairs` are the types and the conversions of its expressions in the order of their heads.
-use Rattle.std.specs.Prelude.{ℕ, ◌+◌, ◌≤◌, ◌≡◌, ◌≢◌, Bool, true, false, List, [], ◌∷◌, ◌++◌, length, get_or, codes, Contains, All, filter, Option, Some, None, ℤ, pos}
-use Rattle.std.specs.Str.{bytes_eq}
+use Rattle.std.specs.Prelude.{ℕ, ◌+◌, ◌≤◌, ◌≡◌, ◌≢◌, Bool, true, false, List, [], ◌∷◌, ◌++◌, length, get_or, codes, Contains, All, Option, Some, None, ℤ, pos}
 use Rattle.po_arith.specs.declared.int_type.IntType.{IntType}
 use Rattle.po_base.specs.declared.operators.Op.{Op}
 use Rattle.po_base.specs.declared.operators.Op.TheVariants as op
@@ -9,7 +8,6 @@ use Rattle.po_tree.specs.declared.expression.Exp.{Exp}
 use Rattle.po_tree.specs.declared.expression.Exp.TheVariants as e
 use Rattle.po_tree.specs.declared.expression.Specifier.{Specifier}
 use Rattle.po_tree.specs.declared.expression.Specifier.TheVariants as sp
-use Rattle.po_tree.specs.declared.expression.Suffix.{Suffix}
 use Rattle.po_tree.specs.declared.expression.Suffix.TheVariants as su
 use Rattle.po_tree.specs.declared.expression.TypeName.{TypeName}
 use Rattle.po_types.specs.declared.ctype.CType.{CType}
@@ -20,9 +18,9 @@ use Rattle.po_types.specs.Tables.{found}
 use Rattle.po_types.specs.Formats.{IsFormat}
 use Rattle.po_types.specs.declared.format.Spec.{Spec}
 use Rattle.po_types.specs.declared.format.Spec.TheVariants as f
-use Rattle.po_typed.specs.Scopes.{Context, Storage, automatic, in_register, in_static, Meaning, global, function, local, type_name, constant, Tag, struct_tag, enum_tag, meaning, tag_meaning}
+use Rattle.po_typed.specs.Scopes.{Context, Storage, in_register, global, function, local, type_name, constant, struct_tag, enum_tag, meaning, tag_meaning}
 use Rattle.po_typed.specs.Operands.{IsComplete, value_type, Tested, Stepped, Combines, shift_operators, arithmetic_operators, equality_operators, comparisons, compound_operators}
-use Rattle.po_typed.specs.Constants.{IsNumber, IsCharacterOf, AreStrings, Becomes, Kept, Computes, Shifts, Compares, complemented}
+use Rattle.po_typed.specs.Constants.{IsNumber, IsCharacterOf, AreStrings, Becomes, Computes, Shifts, Compares, complemented}
 use Rattle.po_typed.specs.BaseTypes.{OnlyWords, IsPlainWord, IsWordType, starred, CanBeStarred, RestrictFits}
 
 -- the type of an expression and the type to which it is converted

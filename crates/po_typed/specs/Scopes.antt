@@ -1,5 +1,5 @@
 -- What is in force at a place: the structs, the tags, and what identifiers mean (C99 6.2.1, 6.2.3).
-use Rattle.std.specs.Prelude.{ℕ, ◌≡◌, Bool, List, [], ◌∷◌, ◌++◌, length, map, slice_set, get_or, ℤ, Option, Some, None}
+use Rattle.std.specs.Prelude.{ℕ, ◌≡◌, Bool, List, [], ◌∷◌, ◌++◌, length, slice_set, ℤ, Option, Some, None}
 use Rattle.po_arith.specs.declared.target.Target.{Target}
 use Rattle.po_types.specs.declared.ctype.CType.{CType}
 use Rattle.po_types.specs.declared.layout.Layout.{Layout}

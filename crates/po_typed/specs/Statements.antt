@@ -1,17 +1,15 @@
 -- Which statements and definitions have a typing, and which (C99 6.8, 6.9.1).
-use Rattle.std.specs.Prelude.{ℕ, ◌≡◌, ◌≢◌, Bool, true, false, List, [], ◌∷◌, ◌++◌, map, flat_map, filter, not, codes, Contains, All, Option, Some, None, IsSome, ℤ}
+use Rattle.std.specs.Prelude.{ℕ, ◌≡◌, ◌≢◌, Bool, true, false, List, [], ◌∷◌, ◌++◌, flat_map, filter, not, codes, Contains, All, Option, Some, None, IsSome, ℤ}
 use Rattle.std.specs.List.{list_any}
 use Rattle.std.specs.Str.{bytes_eq}
 use Rattle.po_arith.specs.declared.int_type.IntType.{IntType}
 use Rattle.po_tree.specs.declared.expression.Exp.{Exp}
 use Rattle.po_tree.specs.declared.expression.Specifier.{Specifier}
-use Rattle.po_tree.specs.declared.expression.Suffix.{Suffix}
 use Rattle.po_tree.specs.declared.expression.Suffix.TheVariants as su
 use Rattle.po_tree.specs.declared.expression.Declarator.{Declarator}
 use Rattle.po_tree.specs.declared.expression.Param.{Param, out-Param}
 use Rattle.po_tree.specs.declared.declaration.Init.{Init}
 use Rattle.po_tree.specs.declared.declaration.Decl.{Decl}
-use Rattle.po_tree.specs.declared.statement.First.{First}
 use Rattle.po_tree.specs.declared.statement.First.TheVariants as f
 use Rattle.po_tree.specs.declared.statement.Stmt.{Stmt, fold-Stmt, out-Stmt}
 use Rattle.po_tree.specs.declared.statement.Stmt.TheVariants as st
@@ -21,11 +19,11 @@ use Rattle.po_tree.specs.Statements.{AllDiffer}
 use Rattle.po_types.specs.declared.ctype.CType.{CType}
 use Rattle.po_types.specs.declared.ctype.CType.TheVariants as c
 use Rattle.po_types.specs.Integers.{promoted}
-use Rattle.po_typed.specs.Scopes.{Context, Block, Storage, automatic, in_register, in_static, Meaning, function, local, with_word, with_blocks, IsNew, in_new_block, back_in, word_here}
+use Rattle.po_typed.specs.Scopes.{Context, Block, Storage, automatic, in_register, in_static, function, local, with_word, with_blocks, IsNew, in_new_block, back_in, word_here}
 use Rattle.po_typed.specs.Operands.{IsComplete, Tested}
 use Rattle.po_typed.specs.Constants.{Becomes}
 use Rattle.po_typed.specs.BaseTypes.{OnlyWords, RestrictFits, CanBeStarred, starred}
-use Rattle.po_typed.specs.Expressions.{Pair, Types, Operand, Assigned, IsBase, IsArray, IsConstant, Constant}
+use Rattle.po_typed.specs.Expressions.{Pair, Types, Operand, Assigned, IsBase, IsArray, Constant}
 use Rattle.po_typed.specs.Initialisers.{Place, static_place, automatic_place, Initialises}
 use Rattle.po_typed.specs.Declarations.{HasStorage, Specified, IsResult, IsVoidAlone, Listed, File, with_context}
 

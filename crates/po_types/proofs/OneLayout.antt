@@ -1,5 +1,5 @@
 -- Members lie in one way at most.
-use Rattle.std.proofs.Common.{arith, refl, sym, ap, ◌∙◌, subst, ◌≡◌, ◌≤◌, ◌+◌, ◌*◌, ℕ, List, [], ◌∷◌}
+use Rattle.std.proofs.Common.{arith, refl, sym, ap, ◌∙◌, subst, ◌≡◌, ◌≤◌, ◌+◌, ℕ, List, ◌∷◌}
 use Rattle.po_types.specs.declared.layout.Extent.{Extent}
 use Rattle.po_types.specs.declared.layout.Layout.{Layout}
 use Rattle.po_types.specs.Layouts.{IsNext, Lie, no_more, member, IsLayout}

@@ -1,9 +1,9 @@
 -- A type has one spelling at most.
-use Rattle.std.proofs.Common.{refl, sym, ap, ◌∙◌, subst, ◌≡◌, ◌⊎◌, inl, inr, ℕ, List, [], ◌∷◌, ◌++◌, Option, Some, None, Bool, true, false}
+use Rattle.std.proofs.Common.{refl, sym, ap, ◌∙◌, subst, ◌≡◌, ◌⊎◌, inl, inr, ℕ, List, [], ◌++◌, Option, Some, None}
+use Rattle.std.proofs.lemmas.Option.{none-some}
 use Rattle.std.specs.Prelude.{map, codes, get_or}
 use Rattle.po_types.specs.declared.env.Env.{Env}
 use Rattle.po_types.specs.declared.ctype.CType.{CType, out-CType}
-use Rattle.po_types.specs.declared.ctype.CType.TheVariants as c
 use Rattle.po_types.specs.declared.ctype.CType.TheOpen.{CType-F}
 use Rattle.po_types.specs.TypesLaws.{out_Void, out_Int, out_Ptr, out_Array, out_Struct, out_Fun}
 use Rattle.po_types.specs.Spelling.{Spelled, AllSpelled, void, integer, pointer, array, tagged, untagged, function, none, last, more, integer_text, size_text, end_text, comma_and}
@@ -30,10 +30,10 @@ module _ (env : Env) where
   opened (function t params rest list text f g) = rw (out_Fun t params rest) (list, text, f, g, refl)
 
   opened_at : {t : CType} {l : CType-F CType} {a : List ℕ} → Spelled env t a → out-CType t ≡ l → Parts l a
-  opened_at d q = subst (λ l. Parts l _) q (opened d)
+  opened_at {a = a} d q = subst (λ l. Parts l a) q (opened d)
 
   none_and_some : {A : Type 0} {o : Option (List ℕ)} {x : List ℕ} → o ≡ None → o ≡ Some x → A
-  none_and_some p q = elim (sym p ∙ q) [ ]
+  none_and_some {x = x} p q = absurd (none-some x (sym p ∙ q))
 
   same_tag : {o : Option (List ℕ)} {x y : List ℕ} → o ≡ Some x → o ≡ Some y → x ≡ y
   same_tag {x = x} p q = ap (λ s. get_tag s x) (sym p ∙ q)

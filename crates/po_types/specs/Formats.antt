@@ -1,5 +1,5 @@
 -- The formats of printf that are read, and what they read (C99 7.19.6.1).
-use Rattle.std.specs.Prelude.{ℕ, ◌≡◌, ◌≢◌, ◌≤◌, ◌⊎◌, List, [], ◌∷◌, ◌++◌, codes, Contains, All}
+use Rattle.std.specs.Prelude.{ℕ, ◌≡◌, ◌≢◌, ◌≤◌, List, [], ◌∷◌, ◌++◌, codes, Contains, All}
 use Rattle.po_arith.specs.declared.target.Target.{Target}
 use Rattle.po_types.specs.declared.format.Spec.{Spec}
 use Rattle.po_types.specs.declared.format.Spec.TheVariants as f

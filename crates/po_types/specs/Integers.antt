@@ -1,5 +1,5 @@
 -- The integer types of a target, their promotion and their usual conversion, and the types of constants (C99 6.2.5, 6.3.1, 6.4.4.1).
-use Rattle.std.specs.Prelude.{ℕ, zero, suc, ◌*◌, ◌^◌, ◌-◌, ◌+◌, ◌/◌, Bool, true, false, cond, ◌≡◌, ◌==◌, nat_lt, nat_le, List, [], ◌∷◌, map, flat_map, drop, Option, Some, None}
+use Rattle.std.specs.Prelude.{ℕ, ◌*◌, ◌^◌, ◌-◌, ◌+◌, ◌/◌, Bool, true, false, cond, nat_lt, List, [], ◌∷◌, flat_map, drop, Option, Some, None}
 use Rattle.po_arith.specs.declared.int_type.IntType.{IntType}
 use Rattle.po_arith.specs.declared.target.Target.{Target}
 use Rattle.po_arith.specs.declared.target.Target.TheVariants as t

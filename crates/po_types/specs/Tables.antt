@@ -1,5 +1,5 @@
 -- Lists of what names stand for.
-use Rattle.std.specs.Prelude.{ℕ, Bool, List, Option, nat_eq, map, Contains}
+use Rattle.std.specs.Prelude.{ℕ, List, Option, nat_eq}
 use Rattle.std.specs.Cmp.Lexicographic.{pointwise}
 use Rattle.std.specs.Map.{lookup}
 

@@ -1,5 +1,5 @@
 -- What follows from a type alone: its size and alignment, what it decays to, what agrees with it (C99 6.2.5, 6.2.7, 6.3.2.1).
-use Rattle.std.specs.Prelude.{ℕ, ◌*◌, ◌≤◌, Bool, true, false, cond, ◌&&◌, nat_le, ◌≡◌, ◌⊎◌, List, [], ◌∷◌, slice_get, Option, Some, None}
+use Rattle.std.specs.Prelude.{ℕ, ◌*◌, Bool, cond, ◌&&◌, nat_le, List, slice_get, Option, Some, None}
 use Rattle.std.specs.Option.{option_map, option_map_or}
 use Rattle.po_arith.specs.declared.int_type.IntType.{IntType}
 use Rattle.po_arith.specs.declared.target.Target.{Target}

@@ -1,7 +1,7 @@
 -- Facts on the words for types, one layer after the other.
-use Rattle.std.specs.Prelude.{ℕ, ◌*◌, ◌≡◌, Bool, List, Option, Some, None}
+use Rattle.std.specs.Prelude.{ℕ, ◌≡◌, Bool, List, Option, Some, None}
 use Rattle.std.specs.Option.{option_map, option_map_or}
-use Rattle.std.proofs.Common.{refl, ap, sym, ◌∙◌}
+use Rattle.std.proofs.Common.{ap, sym, ◌∙◌}
 use Rattle.po_arith.specs.declared.target.Target.{Target}
 use Rattle.po_arith.specs.declared.int_type.IntType.{IntType}
 use Rattle.po_types.specs.declared.layout.Layout.{Layout}
@@ -9,8 +9,6 @@ use Rattle.po_types.specs.declared.ctype.CType.{CType, out-CType, out-roll-CType
 use Rattle.po_types.specs.declared.ctype.CType.TheVariants as c
 use Rattle.po_types.specs.declared.ctype.CType.TheOpen.{CType-F}
 use Rattle.po_types.specs.Integers.{int_bytes, word_bytes}
-use Rattle.std.proofs.Common.{◌↔◌}
-use Rattle.std.specs.Prelude.{IsTrue, true, false}
 use Rattle.po_types.specs.Types.{bytes_of, counts_bytes, align_of, aligns, layout_of}
 
 pub out_Void : out-CType c.Void ≡ CType-F.Void
