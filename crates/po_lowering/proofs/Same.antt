@@ -1,6 +1,6 @@
 -- What the rules of expressions are made of has one result.
-use Rattle.std.proofs.Common.{◌≡◌, ℕ, ◌+◌, ◌≤◌, ◌<◌, List, [], ◌∷◌, ◌++◌, Option, Some, None, Bool, true, false, refl, sym, ap, ◌∙◌, subst, ◌⊎◌, inl, inr, ⊎_elim, arith, length}
-use Rattle.std.specs.Prelude.{slice_get, ◌≢◌}
+use Rattle.std.proofs.Common.{◌≡◌, ℕ, ◌+◌, List, [], ◌∷◌, ◌++◌, Option, Some, None, Bool, refl, sym, ap, ◌∙◌, subst, ⊎_elim, arith}
+use Rattle.std.specs.Prelude.{slice_get}
 use Rattle.std.proofs.lemmas.Bool.{cases_lt}
 use Rattle.po_base.specs.declared.operand.Opnd.{Opnd}
 use Rattle.po_base.specs.declared.operand.Opnd.TheVariants as o
@@ -12,7 +12,7 @@ use Rattle.po_ir.specs.declared.graph.Node.{Node}
 use Rattle.po_tree.specs.Literals.{Characters, end_quote, next_character, first_character}
 use Rattle.po_types.specs.declared.ctype.CType.{CType}
 use Rattle.po_lowering.specs.Typed.{Typed}
-use Rattle.po_lowering.specs.Temporaries.{State, At, Row, ends, follows, Takes, IsFree, old, new, Holds, kept, copied, Saves, not_used, saved, saved_or, node, register, reg, temporary, type_in}
+use Rattle.po_lowering.specs.Temporaries.{State, At, Row, ends, follows, Takes, old, new, Holds, kept, copied, Saves, not_used, saved, node, register, type_in}
 use Rattle.po_lowering.specs.Conversions.{Change, nothing, comparison, conversion, change, Converts, unchanged, compared, converted}
 use Rattle.po_lowering.specs.Spelling.{Spells, no_more_texts, one_more_text}
 use Rattle.po_lowering.specs.Expressions.{Reads, by_address, loaded, Moves, at_start, moved}
@@ -45,20 +45,24 @@ module _ {ns ms : List Node} where
   same_join {b = b} f g = record { same = λ i h k. ⊎_elim (λ lt. f.same i h lt) (λ ge. g.same i ge k) (cases_lt i b) }
 
   pub same_one : {a a' : ℕ} {x y : Instr} {spot : Spot} → At ns a x spot → At ms a' y spot → a ≡ a' → x ≡ y → Same ns ms a (a + 1)
-  same_one {a = a} {a' = a'} {spot = spot} f g ea q = record { same = λ i h k.
-      let here : i ≡ a = omega arith in
-      let there : i ≡ a' = omega arith in
-      ap (slice_get ns) here ∙ f.here ∙ ap (λ z. Some (node z spot)) q ∙ sym g.here ∙ ap (slice_get ms) (sym there) }
+  same_one {a = a} {a' = a'} {spot = spot} f g ea q = record {
+    same = λ i h k.
+        let here : i ≡ a = omega arith in
+        let there : i ≡ a' = omega arith in
+        ap (slice_get ns) here ∙ f.here ∙ ap (λ z. Some (node z spot)) q ∙ sym g.here ∙ ap (slice_get ms) (sym there);
+  }
 
   -- the same where the next place is spelled otherwise
   pub same_last : {a a' b : ℕ} {x y : Instr} {spot : Spot} → At ns a x spot → At ms a' y spot → a ≡ a' → x ≡ y → b ≡ a + 1 → Same ns ms a b
   same_last {a = a} {b = b} f g ea q eb = record { same = λ i h k. (same_one f g ea q).same i h (omega arith) }
 
   pub same_node : {a a' : ℕ} {x y : Node} → slice_get ns a ≡ Some x → slice_get ms a' ≡ Some y → a ≡ a' → x ≡ y → Same ns ms a (a + 1)
-  same_node {a = a} {a' = a'} f g ea q = record { same = λ i h k.
-      let here : i ≡ a = omega arith in
-      let there : i ≡ a' = omega arith in
-      ap (slice_get ns) here ∙ f ∙ ap Some q ∙ sym g ∙ ap (slice_get ms) (sym there) }
+  same_node {a = a} {a' = a'} f g ea q = record {
+    same = λ i h k.
+        let here : i ≡ a = omega arith in
+        let there : i ≡ a' = omega arith in
+        ap (slice_get ns) here ∙ f ∙ ap Some q ∙ sym g ∙ ap (slice_get ms) (sym there);
+  }
 
 -- a value takes one temporary
 pub record SameTaken (r q : ℕ) (t u : State) : Type 0 where

@@ -8,17 +8,14 @@ use Rattle.po_base.specs.declared.numbers.SlotNo.{SlotNo}
 use Rattle.po_base.specs.declared.numbers.GlobalNo.{GlobalNo}
 use Rattle.po_base.specs.declared.operators.Op.{Op}
 use Rattle.po_base.specs.declared.spot.Spot.{Spot}
-use Rattle.po_arith.specs.declared.int_type.IntType.{IntType}
 use Rattle.po_ir.specs.declared.graph.Node.{Node}
-use Rattle.po_ir.specs.Types.{is_comparison}
-use Rattle.po_tree.specs.declared.expression.Exp.{Exp, out-Exp}
+use Rattle.po_tree.specs.declared.expression.Exp.{Exp}
 use Rattle.po_tree.specs.declared.expression.Exp.TheOpen.{Exp-F}
-use Rattle.po_lowering.specs.declared.var.Var.{Var}
 use Rattle.po_lowering.specs.declared.var.Var.TheVariants as var
 use Rattle.po_lowering.specs.Places.{Place}
 use Rattle.po_lowering.specs.Typed.{Typed}
 use Rattle.po_lowering.specs.Temporaries.{State, reg, register, saved_or}
-use Rattle.po_lowering.specs.Naming.{Scope, Named, variable, enumerator, unknown, named, changes}
+use Rattle.po_lowering.specs.Naming.{Scope, Named, variable, enumerator, named, changes}
 use Rattle.po_lowering.specs.Forms.{Layer, IsNotComparison}
 use Rattle.po_lowering.specs.Expressions.{one_or_zero, Value, number, character, size_of_expression, size_of_type, constant_name, register_name, object, paren, call, void_call, plus, minus, complement, not_value, address_of, cast, void_cast, binary, and_value, or_value, choice, void_choice, set_register, set_object, update_register, update_object, pre_increment, pre_decrement, post_increment, post_decrement, comma, Operand, operand, Both, both, Arguments, no_more, one_more, Address, slot_address, global_address, literal_address, paren_address, element_address, pointed_address, member_address, pointed_member_address, Steps, step_register, step_object, Unused, unused_increment, unused_decrement, unused_paren, unused_comma, unused_value, Condition, and_then, or_else, swapped, in_parens, comparison, test}
 use Rattle.po_lowering.specs.Same.{Same, SameRange, SameValue, SameCondition}

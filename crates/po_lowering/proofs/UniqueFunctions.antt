@@ -1,16 +1,14 @@
 -- A typed definition has one graph.
 use Rattle.std.proofs.Common.{◌≡◌, ℕ, suc, ◌+◌, ◌<◌, List, [], ◌∷◌, Some, Bool, true, false, refl, sym, ap, ◌∙◌, arith, length}
 use Rattle.std.specs.Prelude.{slice_get}
-use Rattle.po_ir.specs.declared.instr.Instr.TheVariants as ins
 use Rattle.po_ir.specs.declared.graph.Node.{Node}
 use Rattle.po_ir.specs.declared.graph.Graph.{Graph}
-use Rattle.po_ir.specs.declared.project.Global.{Global}
 use Rattle.po_tree.specs.declared.expression.Param.{Param}
 use Rattle.po_types.specs.declared.ctype.CType.{CType}
 use Rattle.po_lowering.specs.Places.{Place}
 use Rattle.po_lowering.specs.Typed.{Typed}
 use Rattle.po_lowering.specs.Temporaries.{State, fresh}
-use Rattle.po_lowering.specs.Functions.{Params, no_more_params, in_register, in_slot, in_body, IsGraph}
+use Rattle.po_lowering.specs.Functions.{Params, no_more_params, in_register, in_slot, in_body}
 use Rattle.po_lowering.specs.Same.{Same, SameRange, OneGraph}
 use Rattle.po_lowering.proofs.Same.{plus, same_none, same_join, same_one, same_last, one_row, one_taken}
 use Rattle.po_lowering.proofs.UniqueStatements.{Alike, one_items}

@@ -1,6 +1,6 @@
 -- An initialiser has one row of nodes.
-use Rattle.std.proofs.Common.{◌≡◌, ℕ, ◌+◌, List, [], ◌∷◌, ◌++◌, Option, Some, None, Bool, true, false, refl, sym, ap, ◌∙◌, subst, length}
-use Rattle.std.specs.Prelude.{ℤ, pos}
+use Rattle.std.proofs.Common.{◌≡◌, ℕ, List, [], ◌∷◌, Option, Bool, refl, sym, ap, subst}
+use Rattle.std.specs.Prelude.{ℤ}
 use Rattle.po_base.specs.declared.operand.Opnd.{Opnd}
 use Rattle.po_base.specs.declared.operand.Opnd.TheVariants as o
 use Rattle.po_base.specs.declared.numbers.SlotNo.{SlotNo}
@@ -17,7 +17,7 @@ use Rattle.po_lowering.specs.Naming.{Scope}
 use Rattle.po_lowering.specs.Spelling.{characters_given}
 use Rattle.po_lowering.specs.Expressions.{Operand}
 use Rattle.po_lowering.specs.Initialisers.{Given, value, Step, Goes, arrived, to_element, to_member, Reaches, reached, Letters, no_more_letters, one_more_letter, Gives, one_value, a_text, all_elements, all_members, Elements, no_more_elements, one_more_element, Members, no_more_members, one_more_member, Fills, filled, not_filled, Initialises, not_initialised, static_initialised, register_initialised, slot_initialised}
-use Rattle.po_lowering.specs.Same.{Same, SameRange, SameValue}
+use Rattle.po_lowering.specs.Same.{SameRange, SameValue}
 use Rattle.po_lowering.proofs.Same.{plus, one_some, same_none, same_join, same_one, one_taken, one_spelling, one_converted, one_moved, SameRow}
 use Rattle.po_lowering.proofs.UniqueExpressions.{one_operand}
 

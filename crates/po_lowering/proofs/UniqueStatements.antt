@@ -1,21 +1,20 @@
 -- A statement has one row of nodes.
-use Rattle.std.proofs.Common.{◌≡◌, ℕ, ◌+◌, List, [], ◌∷◌, ◌++◌, map, Option, Some, None, Bool, true, false, refl, sym, ap, ◌∙◌, subst, arith, length}
-use Rattle.std.specs.Prelude.{ℤ, pos, slice_get}
+use Rattle.std.proofs.Common.{◌≡◌, ℕ, ◌+◌, List, [], ◌∷◌, ◌++◌, map, Option, Some, Bool, true, false, refl, sym, ap, ◌∙◌, subst, arith, length}
+use Rattle.std.specs.Prelude.{ℤ, slice_get}
 use Rattle.po_base.specs.declared.operand.Opnd.{Opnd}
 use Rattle.po_base.specs.declared.spot.Spot.{Spot}
-use Rattle.po_arith.specs.declared.int_type.IntType.{IntType}
 use Rattle.po_arith.specs.Types.{IsWrapped}
 use Rattle.po_arith.proofs.Wrapped.{one_wrapped}
 use Rattle.po_ir.specs.declared.instr.Ty.{Ty}
 use Rattle.po_ir.specs.declared.instr.Instr.TheVariants as ins
 use Rattle.po_ir.specs.declared.graph.Node.{Node}
-use Rattle.po_tree.specs.declared.expression.Exp.{Exp, out-Exp}
+use Rattle.po_tree.specs.declared.expression.Exp.{Exp}
 use Rattle.po_tree.specs.declared.expression.Declarator.{Declarator}
 use Rattle.po_tree.specs.declared.declaration.Init.{Init}
 use Rattle.po_tree.specs.declared.declaration.Decl.{Decl}
 use Rattle.po_tree.specs.declared.statement.First.{First}
 use Rattle.po_tree.specs.declared.statement.First.TheVariants as fi
-use Rattle.po_tree.specs.declared.statement.Stmt.{Stmt, out-Stmt}
+use Rattle.po_tree.specs.declared.statement.Stmt.{Stmt}
 use Rattle.po_tree.specs.declared.statement.Stmt.TheOpen.{Stmt-F}
 use Rattle.po_types.specs.declared.ctype.CType.{CType}
 use Rattle.po_lowering.specs.declared.var.Var.{Var}
@@ -29,8 +28,8 @@ use Rattle.po_lowering.specs.Completion.{completes, all_complete, first_of_name,
 use Rattle.po_lowering.specs.Blocks.{decl_at, items_at, enters, slots_of, leaves, leaves_where, slots_left, case_tests, default_or, jump_where}
 use Rattle.po_lowering.specs.Initialisers.{Initialises}
 use Rattle.po_lowering.specs.Statements.{Around, inside, looping, switching, no_cases, cases_of, one_more_declared, with_label, with_case, with_default, Declares, no_more_parts, one_more_part, Maybe, missing, there, Test, always, tests, Begins, begins_at_once, begins_with, IsNoBlock, Runs, block, expression, empty, if_alone, if_else, while, do_while, for_plain, for_declaring, switch_block, switch_other, case, default, label, goto, break, continue, return_nothing, return_value, Items, no_more_items, statement, declaration}
-use Rattle.po_lowering.specs.Same.{Same, SameRange, SameValue, SameCondition}
-use Rattle.po_lowering.proofs.Same.{plus, one_some, some_or, same_none, same_join, same_one, one_row, SameRow}
+use Rattle.po_lowering.specs.Same.{Same, SameRange, SameCondition}
+use Rattle.po_lowering.proofs.Same.{plus, one_some, some_or, same_none, same_join, same_one, one_row}
 use Rattle.po_lowering.proofs.UniqueExpressions.{one_value, one_operand, one_unused, one_condition}
 use Rattle.po_lowering.proofs.UniqueInitialisers.{one_initialised}
 
@@ -245,7 +244,7 @@ module _ {f : Typed} {ns ms : List Node} where
         let ecs : t.cases ≡ t'.cases = ap (λ (z : State). z.cases) R.states in
         let ed : default_or t.default_case e ≡ default_or t'.default_case e' = pairs _ (λ (x : State) y. default_or x.default_case y) R.states R.ends in
         let S = one_row T T' E.ends (ap (λ z. case_tests z (tested (type_of f x (skip 2 p))) v (spot_at f p) t.cases) E.ends ∙
-            pairs _ (λ y z. case_tests j' (tested (type_of f x (skip 2 p))) y (spot_at f p) z) Q.value ecs) in
+        pairs _ (λ y z. case_tests j' (tested (type_of f x (skip 2 p))) y (spot_at f p) z) Q.value ecs) in
         let V = one_row L L' R.ends (pairs _ (λ y z. leaves (spot_at f (behind_all y z)) (slots_of f (items_at s.declared q xs))) exs eq ∙ ap (leaves (spot_at f (behind_all ys q'))) eslots) in
         record {
           ends = V.ends;

@@ -1,5 +1,5 @@
 -- Whether `&` is applied to a variable, in parentheses or not; inside sizeof and where nothing comes to it, too.
-use Rattle.std.specs.Prelude.{ℕ, List, [], ◌∷◌, map, Option, Some, None, Bool, true, false, ◌||◌}
+use Rattle.std.specs.Prelude.{ℕ, List, map, Option, Some, None, Bool, false, ◌||◌}
 use Rattle.po_tree.specs.declared.expression.Exp.{Exp, fold-Exp}
 use Rattle.po_tree.specs.declared.expression.Exp.TheOpen.{Exp-F, Specifier-F, Suffix-F, Declarator-F, Member-F, Param-F, TypeName-F}
 use Rattle.po_tree.specs.declared.expression.Specifier.{Specifier, fold-Specifier}

@@ -1,5 +1,5 @@
 -- Entering and leaving blocks, and the tests of a switch (C99 6.8.2, 6.8.4.2, 6.8.6).
-use Rattle.std.specs.Prelude.{ℕ, ◌+◌, ◌-◌, ◌≡◌, pos, ℤ, List, [], ◌∷◌, ◌++◌, length, map, flat_map, take, reverse, Option, Some, None, Bool, true, false}
+use Rattle.std.specs.Prelude.{ℕ, ◌+◌, ◌-◌, ℤ, List, [], ◌∷◌, ◌++◌, length, map, flat_map, take, reverse, Option, Some, None, Bool, true, false}
 use Rattle.po_base.specs.declared.operators.Op.TheVariants as op
 use Rattle.po_base.specs.declared.operand.Opnd.{Opnd}
 use Rattle.po_base.specs.declared.operand.Opnd.TheVariants as o

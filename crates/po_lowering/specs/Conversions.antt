@@ -1,5 +1,5 @@
 -- Which nodes convert a value (C99 6.3), and which one combines two (6.5.2.1, 6.5.5 to 6.5.14).
-use Rattle.std.specs.Prelude.{ℕ, ◌+◌, ◌≡◌, ◌==◌, nat_lt, ℤ, pos, neg_ℤ, List, Option, Some, None, Bool, true, false, cond, ◌||◌}
+use Rattle.std.specs.Prelude.{ℕ, ◌+◌, ◌≡◌, ◌==◌, nat_lt, ℤ, pos, neg_ℤ, List, Bool, true, false, cond, ◌||◌}
 use Rattle.po_base.specs.declared.operators.Op.{Op}
 use Rattle.po_base.specs.declared.operators.Op.TheVariants as op
 use Rattle.po_base.specs.declared.operand.Opnd.{Opnd}

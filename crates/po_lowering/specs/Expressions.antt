@@ -25,7 +25,7 @@ use Rattle.po_lowering.specs.Typed.{Typed, type_at, type_of, conversion_of, spot
 use Rattle.po_lowering.specs.Types.{register_type, is_scalar, is_void, integer_of, pointee, access_of}
 use Rattle.po_lowering.specs.Temporaries.{State, At, Takes, Holds, Saves, saved_or, Row, node, to, reg, register, put}
 use Rattle.po_lowering.specs.Conversions.{Converts, tested, combines, steps, store}
-use Rattle.po_lowering.specs.Naming.{Scope, Named, variable, enumerator, named, changes, register_of}
+use Rattle.po_lowering.specs.Naming.{Scope, variable, enumerator, named, changes, register_of}
 use Rattle.po_lowering.specs.Spelling.{Spells}
 use Rattle.po_lowering.specs.Forms.{Layer, IsObject, IsSameUnused, IsPlain, offset_of}
 

@@ -1,6 +1,5 @@
 -- What the rules of expressions ask of a form.
 use Rattle.std.specs.Prelude.{ℕ, List, [], ◌∷◌, Option, Some, None, Bool, true, false, cond}
-use Rattle.po_base.specs.declared.operators.Op.{Op}
 use Rattle.po_ir.specs.Types.{is_comparison}
 use Rattle.po_tree.specs.declared.expression.Exp.{Exp}
 use Rattle.po_tree.specs.declared.expression.Exp.TheOpen.{Exp-F}

@@ -1,5 +1,5 @@
 -- The graph of a function definition (C99 6.9.1).
-use Rattle.std.specs.Prelude.{ℕ, suc, ◌+◌, ◌*◌, ◌^◌, ◌≤◌, ◌≡◌, pos, List, [], ◌∷◌, ◌++◌, length, flat_map, codes, Option, Some, None, Bool, true, false, cond}
+use Rattle.std.specs.Prelude.{ℕ, suc, ◌+◌, ◌*◌, ◌^◌, ◌≤◌, ◌≡◌, pos, List, [], ◌∷◌, length, codes, Some, None, Bool, true, false, cond}
 use Rattle.po_base.specs.declared.operand.Opnd.TheVariants as o
 use Rattle.po_ir.specs.declared.instr.Ty.TheVariants as ty
 use Rattle.po_ir.specs.declared.instr.Instr.{Instr}
@@ -10,18 +10,13 @@ use Rattle.po_ir.specs.declared.graph.Node.{Node}
 use Rattle.po_ir.specs.declared.graph.Graph.{Graph}
 use Rattle.po_ir.specs.declared.project.Global.{Global}
 use Rattle.po_tree.specs.declared.expression.Param.{Param, out-Param}
-use Rattle.po_tree.specs.declared.function.FunTree.{FunTree}
-use Rattle.po_tree.specs.Printing.{prints_star, flat_specifier, flat_declarator}
-use Rattle.po_tree.specs.Order.{specifier_expressions, declarator_expressions}
 use Rattle.po_types.specs.declared.ctype.CType.{CType}
-use Rattle.po_lowering.specs.declared.var.Var.{Var}
-use Rattle.po_lowering.specs.declared.var.Var.TheVariants as var
-use Rattle.po_lowering.specs.Places.{Place, further, skip, behind_specs, behind_declarator, behind_all, word_of}
+use Rattle.po_lowering.specs.Places.{Place, skip, behind_specs, behind_declarator, behind_all, word_of}
 use Rattle.po_lowering.specs.Typed.{Typed, spot_at}
 use Rattle.po_lowering.specs.Types.{is_void, access_of}
 use Rattle.po_lowering.specs.Temporaries.{State, At, Row, Takes, fresh, node, reg, register}
-use Rattle.po_lowering.specs.Naming.{Scope, is_same, holds_of}
-use Rattle.po_lowering.specs.Storage.{params_of, param_slots, params_scope, param_addressed, name_of_param, first_registers, all_slots, all_statics, body_variables}
+use Rattle.po_lowering.specs.Naming.{is_same, holds_of}
+use Rattle.po_lowering.specs.Storage.{params_of, params_scope, param_addressed, name_of_param, first_registers, all_slots, all_statics, body_variables}
 use Rattle.po_lowering.specs.Completion.{all_complete}
 use Rattle.po_lowering.specs.Blocks.{items_at, enters}
 use Rattle.po_lowering.specs.Statements.{Around, Items}

@@ -1,5 +1,5 @@
 -- What names name: scopes, and which variables an expression assigns or applies `&` to.
-use Rattle.std.specs.Prelude.{ℕ, nat_eq, ℤ, List, [], ◌∷◌, map, Option, Some, None, Bool, true, false, cond, ◌||◌}
+use Rattle.std.specs.Prelude.{ℕ, nat_eq, ℤ, List, [], ◌∷◌, map, Option, Some, None, Bool, false, cond, ◌||◌}
 use Rattle.std.specs.Cmp.Lexicographic.{pointwise}
 use Rattle.po_base.specs.declared.operand.Opnd.{Opnd}
 use Rattle.po_base.specs.declared.operand.Opnd.TheVariants as o

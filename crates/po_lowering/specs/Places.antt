@@ -1,5 +1,5 @@
 -- Where the parts of a tree stand: how many expressions and how many tokens come before them.
-use Rattle.std.specs.Prelude.{ℕ, suc, ◌+◌, List, [], ◌∷◌, ◌++◌, length, flat_map, Option, Some, None}
+use Rattle.std.specs.Prelude.{ℕ, suc, ◌+◌, List, ◌++◌, length, flat_map, Option, Some, None}
 use Rattle.po_tree.specs.declared.expression.Exp.{Exp, out-Exp}
 use Rattle.po_tree.specs.declared.expression.Exp.TheOpen.{Exp-F}
 use Rattle.po_tree.specs.declared.expression.Specifier.{Specifier}
@@ -13,7 +13,6 @@ use Rattle.po_tree.specs.declared.declaration.Decl.{Decl}
 use Rattle.po_tree.specs.declared.statement.First.{First}
 use Rattle.po_tree.specs.declared.statement.First.TheVariants as f
 use Rattle.po_tree.specs.declared.statement.Stmt.{Stmt}
-use Rattle.po_tree.specs.declared.function.FunTree.{FunTree}
 use Rattle.po_tree.specs.Printing.{flat, flat_specifier, flat_declarator, flat_type, flat_init, flat_part, flat_decl, flat_stmt, prints_star}
 use Rattle.po_tree.specs.Order.{expressions, specifier_expressions, declarator_expressions, init_expressions, part_expressions, decl_expressions, stmt_expressions}
 

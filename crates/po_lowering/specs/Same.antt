@@ -1,5 +1,5 @@
 -- No typed tree has two graphs: what two lowerings of one part agree in.
-use Rattle.std.specs.Prelude.{ℕ, ◌≤◌, ◌<◌, ◌≡◌, List, slice_get, Bool}
+use Rattle.std.specs.Prelude.{ℕ, ◌≤◌, ◌<◌, ◌≡◌, List, slice_get}
 use Rattle.po_base.specs.declared.operand.Opnd.{Opnd}
 use Rattle.po_ir.specs.declared.graph.Node.{Node}
 use Rattle.po_ir.specs.declared.graph.Graph.{Graph}
@@ -11,7 +11,7 @@ use Rattle.po_lowering.specs.Temporaries.{State}
 use Rattle.po_lowering.specs.Naming.{Scope}
 use Rattle.po_lowering.specs.Forms.{Layer}
 use Rattle.po_lowering.specs.Functions.{IsGraph}
-use Rattle.po_lowering.specs.Expressions.{Value, Operand, Address, Unused, Condition}
+use Rattle.po_lowering.specs.Expressions.{Operand, Unused, Condition}
 
 -- two graphs have the same nodes from a to b
 pub record Same (ns ms : List Node) (a b : ℕ) : Type 0 where

@@ -1,5 +1,5 @@
 -- The bytes and characters of string literals (C99 6.4.5).
-use Rattle.std.specs.Prelude.{ℕ, suc, ◌-◌, nat_lt, ◌≡◌, ℤ, pos, neg_ℤ, List, [], ◌∷◌, ◌++◌, length, map, cond, Option, Some, None}
+use Rattle.std.specs.Prelude.{ℕ, ◌-◌, nat_lt, ◌≡◌, ℤ, pos, neg_ℤ, List, [], ◌∷◌, ◌++◌, length, map, cond, Option, Some, None}
 use Rattle.po_tree.specs.Literals.{Characters}
 
 -- Spells texts bytes: literals side by side are these bytes, without the zero byte at their end

@@ -1,5 +1,5 @@
 -- Where each variable of a body is kept: in a register, in a slot, or as a global.
-use Rattle.std.specs.Prelude.{ℕ, suc, ◌+◌, List, [], ◌∷◌, ◌++◌, map, length, codes, slice_get, take, Option, Some, None, Bool, true, false, cond, not, ◌||◌, ◌&&◌}
+use Rattle.std.specs.Prelude.{ℕ, suc, List, [], ◌∷◌, ◌++◌, map, length, codes, slice_get, take, Option, Some, None, Bool, true, false, cond, not, ◌||◌, ◌&&◌}
 use Rattle.po_ir.specs.declared.graph.Reg.{Reg as Register}
 use Rattle.po_ir.specs.declared.graph.Slot.{Slot}
 use Rattle.po_ir.specs.declared.project.Global.{Global}
@@ -23,7 +23,7 @@ use Rattle.po_lowering.specs.declared.var.Var.TheVariants as var
 use Rattle.po_lowering.specs.Typed.{Typed, Declared}
 use Rattle.po_lowering.specs.Types.{register_type, is_scalar}
 use Rattle.po_lowering.specs.Naming.{is_same, holds_of}
-use Rattle.po_lowering.specs.Addressing.{addressed_in, addressed_in_specifier, addressed_in_declarator, addressed_in_init, addressed_if_there}
+use Rattle.po_lowering.specs.Addressing.{addressed_in, addressed_in_declarator, addressed_in_init, addressed_if_there}
 
 -- a declarator of the body: its name, whether it is static and has an initialiser, and whether `&` is applied to its variable
 pub record Variable : Type 0 where

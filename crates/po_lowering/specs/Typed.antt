@@ -1,5 +1,5 @@
 -- What typing says of a definition, which is all that its graph depends on.
-use Rattle.std.specs.Prelude.{ℕ, ℤ, Bool, List, [], ◌∷◌, get_or, Option, Some, None}
+use Rattle.std.specs.Prelude.{ℕ, ℤ, Bool, List, [], get_or, Option}
 use Rattle.po_base.specs.declared.spot.Spot.{Spot}
 use Rattle.po_tree.specs.declared.expression.Exp.{Exp}
 use Rattle.po_tree.specs.declared.function.FunTree.{FunTree}
