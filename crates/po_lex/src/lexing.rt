@@ -198,8 +198,8 @@ fn no_part(place: &Place, bytes: &[u8]) -> LexFail
 
 /// The tokens of a file of at most 2^24 bytes that a C preprocessor wrote, in the one division of its bytes into
 /// longest parts. The first name is the file's own, and each line marker that gives a name adds one. Time is linear in
-/// the bytes. Memory is about 110 bytes for a byte of the file where each byte is a token, and about 20 for real text; each
-/// name is kept once for a marker that gives it, and a token has its place alone.
+/// the bytes. Memory is one copy of the bytes, which the tokens share, and for each token its place in the list; each name is
+/// kept once for a marker that gives it.
 ///
 /// # Errors
 ///

@@ -24,12 +24,12 @@ fn put(out: &mut Vec<u8>, part: &[u8]) -> Result<(), Memory> {
     let mut quoted = false;
     for byte in part {
         if quoted {
-            out.push(meant(*byte))?;
+            out.extend_from_slice(&[meant(*byte)])?;
             quoted = false;
         } else if *byte == b'`' {
             quoted = true;
         } else {
-            out.push(*byte)?;
+            out.extend_from_slice(&[*byte])?;
         }
     }
     Ok(())

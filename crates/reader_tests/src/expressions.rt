@@ -2,7 +2,7 @@
 
 use crate::lexing::{put_fail, read};
 use crate::spelling::spell;
-use crate::writing::put_number;
+use crate::writing::{put_named, put_number};
 use po_base::{Memory, OrdList, Text, Tokens};
 use po_exp_read::read_exp;
 use po_tree::Names;
@@ -50,7 +50,21 @@ pub(crate) fn show_expression(
     }
 }
 
-/// The same, where the text begins with the two ends of the range.
+/// Where the longest expression of a text ends, and how many tokens the text has.
+pub(crate) fn show_end(alloc: Global, out: &mut Vec<u8>, text: &[u8]) -> Result<(), Memory> {
+    match read(alloc, text) {
+        Ok(found) => {
+            match read_exp(alloc, &found, 0, u32::MAX, &names(alloc)?)? {
+                Some((_, end)) => put_number(alloc, out, end as u64)?,
+                None => put_number(alloc, out, 0)?,
+            }
+            put_named(alloc, out, b"tokens ", found.list.len() as u64)
+        }
+        Err(fail) => put_fail(alloc, out, fail),
+    }
+}
+
+/// The longest expression in a range, where the text begins with the two ends of the range.
 pub(crate) fn show_range(alloc: Global, out: &mut Vec<u8>, text: &[u8]) -> Result<(), Memory> {
     if let Ok(text) = str::from_utf8(text)
         && let Some((from, rest)) = text.split_once(' ')

@@ -13,12 +13,12 @@ mod trees;
 mod writing;
 
 use expand::expanded;
-use expressions::{show_expression, show_range};
+use expressions::{show_end, show_expression, show_range};
 use lexing::{show_counts, show_kept, show_marks, show_pieces, show_tokens};
 use po_base::Memory;
 use std::alloc::Global;
 use std::{io, str};
-use straight::show_definitions;
+use straight::{show_definitions, show_value};
 use trees::{show_bodies, show_tags};
 
 /// Writes the answer to a case of this kind.
@@ -36,8 +36,10 @@ fn show(
         [b'p'] => show_pieces(alloc, out, text),
         [b'c'] => show_counts(alloc, out, text),
         [b'e'] => show_expression(alloc, out, text, 0, u32::MAX),
+        [b'd'] => show_end(alloc, out, text),
         [b'r'] => show_range(alloc, out, text),
         [b's'] => show_definitions(alloc, out, text),
+        [b'o'] => show_value(alloc, out, text),
         [b'b'] => show_bodies(alloc, out, times),
         [b'g'] => show_tags(alloc, out, times),
         _ => Ok(()),
