@@ -4,3 +4,11 @@ pub mod Divided
 pub mod Shifted
 pub mod BitByBit
 pub mod Hulls
+pub mod Comparing
+pub mod Powers
+pub mod Sizes
+pub mod BitsNeeded
+pub mod BitsKept
+pub mod AtCorners
+pub mod RangesCover
+pub mod RangesWiden

@@ -5,7 +5,7 @@ use Rattle.std.specs.Int.{int_rem_euclid, w128}
 use Rattle.std.specs.Int.Signed.{mag}
 use Rattle.std.proofs.lemmas.Int.{ints}
 use Rattle.std.proofs.lemmas.Nat.{div-add-mod', mod_below, pow_pos}
-use Rattle.std.proofs.Math.Nat.{pow-suc, suc-mul}
+use Rattle.std.proofs.Math.Nat.{pow-suc, suc-mul, mod-eq_of_lt}
 use Rattle.po_arith.specs.declared.int_type.IntType.{IntType}
 use Rattle.po_arith.specs.Types.{IsIntType, IsWidth, IsWrapped, AreCongruent, least, greatest}
 use Rattle.po_arith.proofs.Products.{one_more, same_rest}
@@ -24,6 +24,10 @@ rest_is_congruent (negsuc a) m some =
     let low = mod_below a m some in
     let more = suc-mul (a / m) m in
     (negsuc (a / m), omega (arith, ints))
+
+pub rest_of_small : (v : ℤ) (m : ℕ) → pos 0 ≤ℤ v → v <ℤ pos m → int_rem_euclid v (pos m) ≡ v
+rest_of_small (pos a) m low high = let less : a < m = omega (arith, ints) in ap pos (mod-eq_of_lt less)
+rest_of_small (negsuc a) m low high = absurd (omega (arith, ints))
 
 -- the same one multiple down
 pub congruent_below : (m : ℕ) (v r : ℤ) → AreCongruent m v r → AreCongruent m v (r -ℤ pos m)

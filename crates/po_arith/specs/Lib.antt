@@ -3,3 +3,4 @@ pub mod Division
 pub mod Shifts
 pub mod Bits
 pub mod Hull
+pub mod Ranges

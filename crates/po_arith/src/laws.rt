@@ -1,7 +1,8 @@
 ghost use Rattle.po_arith.specs.Types.{OneWrapped};
 ghost use Rattle.po_arith.specs.Division.{DivisionIsC99, OneDivision};
 ghost use Rattle.po_arith.specs.Shifts.{OneShiftedRight};
-ghost use Rattle.po_arith.specs.Bits.{BitsAreTelling};
+ghost use Rattle.po_arith.specs.Bits.{BitsAreTelling, BitsAreLeast, BitwiseKeepsTypes};
+ghost use Rattle.po_arith.specs.Ranges.{ResultsAreCovered, ResultsWiden};
 
 /// A number is wrapped to one number at most. It does nothing.
 pub fn one_number_is_congruent()
@@ -22,4 +23,21 @@ pub fn one_number_is_rounded_down()
 /// A number is known by its bits. It does nothing.
 pub fn bits_tell_numbers_apart()
     ensures { BitsAreTelling }
+{}
+
+/// As many bits as a number needs hold it and no fewer do, and what is done bit by bit keeps the numbers of a signed type. It does nothing.
+pub fn bits_hold_numbers()
+    ensures least { BitsAreLeast }
+    ensures kept { BitwiseKeepsTypes }
+{}
+
+/// Each result of numbers of two ranges lies in the range of results: products, quotients by divisors of one sign and shifts lie between
+/// those at the corners. It does nothing.
+pub fn results_lie_between_ends()
+    ensures { ResultsAreCovered }
+{}
+
+/// Wider ranges have wider ranges of results. It does nothing.
+pub fn wider_ranges_have_wider_results()
+    ensures { ResultsWiden }
 {}

@@ -1,7 +1,7 @@
 use po_base::{FunNo, NodeNo};
 
 /// Why an obligation stands at a node.
-#[derive(Clone, Copy, Debug, PartialEq, Eq, PartialOrd, Ord)]
+#[derive(Clone, Copy, Debug, PartialEq, Eq, PartialOrd, Ord, Hash)]
 pub enum Cause<P> {
     /// The node's instruction asks for it: the place among the predicates that it asks for, from 0.
     Primary(u32),
@@ -10,7 +10,7 @@ pub enum Cause<P> {
 }
 
 /// An obligation: a predicate that has to hold whenever a node of a function is reached.
-#[derive(Clone, Copy, Debug, PartialEq, Eq, PartialOrd, Ord)]
+#[derive(Clone, Copy, Debug, PartialEq, Eq, PartialOrd, Ord, Hash)]
 pub struct Obl<P> {
     pub fun: FunNo,
     pub node: NodeNo,

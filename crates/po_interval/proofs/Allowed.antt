@@ -2,22 +2,22 @@
 use Rattle.std.proofs.Common.{◌≡◌, ◌≤◌, ◌<◌, ◌-◌, ◌^◌, ℕ, Bool, true, false, cond, List, [], ◌∷◌, refl, sym, ◌∙◌, subst, inl, inr, ◌⊎◌, arith}
 use Rattle.std.specs.Prelude.{ℤ, pos, neg_ℤ, ◌≤ℤ◌, ◌<ℤ◌, filter_map, Some, IfSome}
 use Rattle.std.proofs.lemmas.Int.{ints}
-use Rattle.po_interval.proofs.Corners.{pow_up}
-use Rattle.po_interval.proofs.Bitwise.{small}
 use Rattle.po_arith.specs.declared.int_type.IntType.{IntType}
 use Rattle.po_arith.specs.Types.{IsIntType, IsOfType, IsWidth, least, greatest}
 use Rattle.po_base.specs.declared.operators.Op.{Op}
 use Rattle.po_base.specs.declared.operators.Op.TheVariants as op
 use Rattle.po_base.specs.declared.operators.UnOp.{UnOp}
+use Rattle.po_arith.proofs.Comparing.{le_tells}
+use Rattle.po_arith.proofs.Powers.{pow_up}
+use Rattle.po_arith.proofs.Sizes.{small, least_unsigned, greatest_unsigned}
 use Rattle.po_interval.specs.Sets.{IsAmong}
 use Rattle.po_interval.specs.Members.{Allows, IsProper, AreOfType, AreWithin}
 use Rattle.po_interval.specs.Results.{given, modulo, conv, truth, exact, binary, un_exact, unary, is_between}
 use Rattle.po_interval.specs.Gathering.{pairs, is_comparison, of_any, bin_members, un_members, conv_members, IsResult, BinMembersCover, UnMembersCover, ConvMembersCover, BinMembersAreMonotone, UnMembersAreMonotone, ConvMembersAreMonotone, ResultsAreOfType}
 use Rattle.po_interval.specs.declared.members.Members.{Members}
 use Rattle.po_interval.specs.declared.members.Members.TheVariants.{Few, Any}
-use Rattle.po_interval.proofs.Covers.{some_same, given_some, least_unsigned, greatest_unsigned, modulo_of_type, modulo_same}
+use Rattle.po_interval.proofs.Covers.{some_same, given_some, modulo_of_type, modulo_same}
 use Rattle.po_interval.proofs.Covered.{conv_all_some}
-use Rattle.po_interval.proofs.Ends.{le_tells}
 use Rattle.std.proofs.lemmas.Bool.{and_parts}
 use Rattle.po_interval.proofs.Joins.{since}
 use Rattle.po_interval.proofs.Gathered.{to_filter, from_filter, to_pairs, from_pairs, gathered_allows, gathered_proper, gathered_within, gathered_of_type}

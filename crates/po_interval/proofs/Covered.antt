@@ -1,5 +1,5 @@
 -- Every result lies in the interval of results.
-use Rattle.std.proofs.Common.{◌≡◌, Bool, true, false, cond, arith, refl, ap, subst}
+use Rattle.std.proofs.Common.{◌≡◌, Bool, true, false, cond, arith, refl, subst}
 use Rattle.std.specs.Prelude.{◌&&◌, ℤ, pos, ◌≤ℤ◌, ◌≢◌, ◌-◌, Option, Some, None, int_le}
 use Rattle.std.specs.Ordering.{int_eq}
 use Rattle.std.proofs.lemmas.Int.{ints, clamps}
@@ -14,12 +14,15 @@ use Rattle.po_arith.specs.declared.interval.Interval.{Interval}
 use Rattle.po_arith.specs.declared.range.Range.{Range}
 use Rattle.po_arith.specs.Types.{IsIntType, IsOfType, least, greatest}
 use Rattle.po_arith.specs.Hull.{IsIn}
-use Rattle.po_interval.specs.Ranges.{range, Spans, Holds, low_cut, high_cut, some_range, cut, part, counts, sums, differences, products, quotients, remainders, conjunctions, disjunctions, shifts_up, shifts_down, outcomes, takes_count, second, of_parts, un_outcomes, of_part}
+use Rattle.po_arith.proofs.Comparing.{le_tells}
+use Rattle.po_arith.proofs.RangesCover.{results_are_covered}
+use Rattle.po_arith.specs.Ranges.{range, Spans, sums, differences, products, quotients, remainders, shifts_up, shifts_down}
+use Rattle.po_interval.specs.Ranges.{Holds, low_cut, high_cut, cut, part, counts, conjunctions, disjunctions, outcomes, takes_count, second, of_parts, un_outcomes, of_part}
 use Rattle.po_interval.specs.Results.{given, conv, conv_all, exact, truth, is_count, can_divide, un_exact, BinCovers, UnCovers}
-use Rattle.po_interval.proofs.Ends.{le_tells}
-use Rattle.po_interval.proofs.Covers.{some_same, given_some, cut_spans, settled_covers, sums_cover, differences_cover, products_cover, quotients_cover, remainders_cover, shifts_up_cover, shifts_down_cover}
+use Rattle.po_interval.proofs.Covers.{some_same, given_some, cut_spans, settled_covers}
 use Rattle.po_interval.proofs.Bitwise.{conjunctions_cover}
-use Rattle.po_interval.proofs.Disjunctions.{or_cover, xor_cover}
+use Rattle.po_interval.proofs.Bitwise.{or_cover, xor_cover}
+use Rattle.po_arith.proofs.RangesWiden.{some_range_is}
 
 pub conv_all_some : (t : IntType) (o : Option ℤ) (x : ℤ) → conv_all t o ≡ Some x → (y : ℤ) × (o ≡ Some y) × (conv t y ≡ Some x)
 conv_all_some t (Some y) x same = (y, refl, same)
@@ -42,16 +45,16 @@ abbrev OutcomesCover : Op → Type 0
 OutcomesCover op = (t : IntType) (r s : Range) (v w y : ℤ) → IsIntType t → IsOfType t v → (takes_count op ≡ false → IsOfType t w) → (takes_count op ≡ true → pos 0 ≤ℤ s.lo) → r.hi ≤ℤ greatest t → (takes_count op ≡ false → s.hi ≤ℤ greatest t) → Spans (Some r) v → Spans (Some s) w → exact op t v w ≡ Some y → Spans (outcomes op t r s) y
 
 outcomes_cover : (op : Op) → OutcomesCover op
-outcomes_cover op.Add t r s v w y is v_of w_of up r_high s_high v_in w_in same = along (Some (sums r s)) _ y same (sums_cover r s v w v_in w_in)
-outcomes_cover op.Sub t r s v w y is v_of w_of up r_high s_high v_in w_in same = along (Some (differences r s)) _ y same (differences_cover r s v w v_in w_in)
-outcomes_cover op.Mul t r s v w y is v_of w_of up r_high s_high v_in w_in same = along (Some (products r s)) _ y same (products_cover r s v w v_in w_in)
-outcomes_cover op.Div t r s v w y is v_of w_of up r_high s_high v_in w_in same = given_along (quotients r s) (can_divide t v w) _ y same (λ test. quotients_cover r s v w v_in w_in (not_zero t v w test))
-outcomes_cover op.Rem t r s v w y is v_of w_of up r_high s_high v_in w_in same = given_along (remainders r s) (can_divide t v w) _ y same (λ test. remainders_cover r s v w v_in w_in (not_zero t v w test))
+outcomes_cover op.Add t r s v w y is v_of w_of up r_high s_high v_in w_in same = along (Some (sums r s)) _ y same (results_are_covered.sums r s v w v_in w_in)
+outcomes_cover op.Sub t r s v w y is v_of w_of up r_high s_high v_in w_in same = along (Some (differences r s)) _ y same (results_are_covered.differences r s v w v_in w_in)
+outcomes_cover op.Mul t r s v w y is v_of w_of up r_high s_high v_in w_in same = along (Some (products r s)) _ y same (results_are_covered.products r s v w v_in w_in)
+outcomes_cover op.Div t r s v w y is v_of w_of up r_high s_high v_in w_in same = given_along (quotients r s) (can_divide t v w) _ y same (λ test. results_are_covered.quotients r s v w v_in w_in (not_zero t v w test))
+outcomes_cover op.Rem t r s v w y is v_of w_of up r_high s_high v_in w_in same = given_along (remainders r s) (can_divide t v w) _ y same (λ test. results_are_covered.remainders r s v w v_in w_in (not_zero t v w test))
 outcomes_cover op.And t r s v w y is v_of w_of up r_high s_high v_in w_in same = along (Some (conjunctions t r s)) _ y same (conjunctions_cover t r s v w is v_of (w_of refl) v_in w_in)
 outcomes_cover op.Or t r s v w y is v_of w_of up r_high s_high v_in w_in same = along (Some (disjunctions t r s)) _ y same (or_cover t r s v w is v_of (w_of refl) r_high (s_high refl) v_in w_in)
 outcomes_cover op.Xor t r s v w y is v_of w_of up r_high s_high v_in w_in same = along (Some (disjunctions t r s)) _ y same (xor_cover t r s v w is v_of (w_of refl) r_high (s_high refl) v_in w_in)
-outcomes_cover op.Shl t r s v w y is v_of w_of up r_high s_high v_in w_in same = given_along (shifts_up r s) (is_count t w && int_le (pos 0) v) _ y same (λ test. shifts_up_cover r s v w v_in w_in (up refl) (le_tells _ _ (and_parts _ _ test).1))
-outcomes_cover op.Shr t r s v w y is v_of w_of up r_high s_high v_in w_in same = given_along (Some (shifts_down r s)) (is_count t w) _ y same (λ test. shifts_down_cover r s v w v_in w_in (up refl))
+outcomes_cover op.Shl t r s v w y is v_of w_of up r_high s_high v_in w_in same = given_along (shifts_up r s) (is_count t w && int_le (pos 0) v) _ y same (λ test. results_are_covered.shifts_up r s v w v_in w_in (up refl) (le_tells _ _ (and_parts _ _ test).1))
+outcomes_cover op.Shr t r s v w y is v_of w_of up r_high s_high v_in w_in same = given_along (Some (shifts_down r s)) (is_count t w) _ y same (λ test. results_are_covered.shifts_down r s v w v_in w_in (up refl))
 outcomes_cover op.Eq t r s v w y is v_of w_of up r_high s_high v_in w_in same = along (Some (range (pos 0) (pos 1))) _ y same (truth_in _)
 outcomes_cover op.Ne t r s v w y is v_of w_of up r_high s_high v_in w_in same = along (Some (range (pos 0) (pos 1))) _ y same (truth_in _)
 outcomes_cover op.Lt t r s v w y is v_of w_of up r_high s_high v_in w_in same = along (Some (range (pos 0) (pos 1))) _ y same (truth_in _)
@@ -83,13 +86,6 @@ second_in op.Lt t b v w y w_of w_in same = of_type_in t b w (w_of refl) w_in
 second_in op.Le t b v w y w_of w_in same = of_type_in t b w (w_of refl) w_in
 second_in op.Gt t b v w y w_of w_in same = of_type_in t b w (w_of refl) w_in
 second_in op.Ge t b v w y w_of w_in same = of_type_in t b w (w_of refl) w_in
-
-pub some_range_is : (lo hi : ℤ) (s : Range) → some_range lo hi ≡ Some s → (lo ≡ s.lo) × (hi ≡ s.hi) × (lo ≤ℤ hi)
-some_range_is lo hi s same = by (int_le lo hi) refl same
-  where
-    by : (b : Bool) → int_le lo hi ≡ b → cond b (Some (range lo hi)) None ≡ Some s → (lo ≡ s.lo) × (hi ≡ s.hi) × (lo ≤ℤ hi)
-    by true test same = let is : range lo hi ≡ s = cc in (ap (λ (r : Range). r.lo) is, ap (λ (r : Range). r.hi) is, le_tells lo hi test)
-    by false test same = absurd (cc)
 
 low_cut_low : (low : ℤ) (end : Option ℤ) → low ≤ℤ low_cut low end
 low_cut_low low None = omega (arith, ints)

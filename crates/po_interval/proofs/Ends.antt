@@ -1,18 +1,13 @@
 -- Intervals within one another, by their ends.
 use Rattle.std.proofs.Common.{◌≡◌, true, refl, ap, ◌∙◌, arith}
-use Rattle.std.specs.Prelude.{ℤ, pos, ◌≤ℤ◌, ◌+ℤ◌, ◌-ℤ◌, Option, Some, None, int_le}
+use Rattle.std.specs.Prelude.{ℤ, pos, ◌≤ℤ◌, ◌+ℤ◌, ◌-ℤ◌, Option, Some, None}
 use Rattle.std.specs.Int.{int_min, int_max}
 use Rattle.std.proofs.lemmas.Int.{ints, clamps}
 use Rattle.std.proofs.lemmas.Bool.{and_parts, and_from}
 use Rattle.po_arith.specs.declared.interval.Interval.{Interval}
 use Rattle.po_arith.specs.Hull.{IsAtLeast, IsAtMost, IsWithin, IsInhabited, lower, upper}
 use Rattle.po_interval.specs.Within.{is_lower, is_upper, interval_within, EndsAreOrdered}
-
-pub le_tells : (x y : ℤ) → int_le x y ≡ true → x ≤ℤ y
-le_tells x y test = grind (arith, ints)
-
-pub le_since : (x y : ℤ) → x ≤ℤ y → int_le x y ≡ true
-le_since x y up = grind (arith, ints)
+use Rattle.po_arith.proofs.Comparing.{le_tells, le_since}
 
 lower_refl : (a : Option ℤ) → is_lower a a ≡ true
 lower_refl None = refl

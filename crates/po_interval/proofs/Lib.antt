@@ -2,10 +2,8 @@ pub mod Numbers
 pub mod Joins
 pub mod Ends
 pub mod Nearest
-pub mod Corners
 pub mod Covers
 pub mod Bitwise
-pub mod Disjunctions
 pub mod Covered
 pub mod Machine
 pub mod Widening

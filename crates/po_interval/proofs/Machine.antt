@@ -1,53 +1,17 @@
 -- What the machine's 128 bits hold.
-use Rattle.std.proofs.Common.{◌≡◌, ◌≤◌, ◌<◌, ◌-◌, ◌*◌, ◌%◌, ◌^◌, ℕ, suc, Bool, true, false, cond, arith, sym, refl, ap, ◌∙◌, inl, inr, min, FitsSigned, to_z, lit<}
-use Rattle.std.specs.Prelude.{ℤ, pos, negsuc, neg_ℤ, ◌≤ℤ◌, ◌<ℤ◌, ◌+ℤ◌, ◌-ℤ◌, ◌*ℤ◌, ◌⊎◌, Some, None, int_le, int_div, unsigned_abs}
+use Rattle.std.proofs.Common.{◌≡◌, ◌≤◌, ◌-◌, ◌^◌, ℕ, Bool, true, false, cond, arith, sym, refl, ap, ◌∙◌, inl, inr, min}
+use Rattle.std.specs.Prelude.{ℤ, pos, negsuc, neg_ℤ, ◌≤ℤ◌, ◌<ℤ◌, ◌⊎◌, Some, None, int_le}
 use Rattle.std.specs.Int.{int_min, int_max, saturate_signed, w128}
-use Rattle.std.proofs.lemmas.Int.{ints, clamps, to_z_pos, fits_signed_mul, by_lt_z}
-use Rattle.std.proofs.lemmas.Bool.{and_left, and_right, cond-true, cond-false, cases_lt}
-use Rattle.std.proofs.lemmas.Nat.{pow_below}
-use Rattle.std.proofs.Math.Nat.{mod-eq_of_lt, div-le_self}
+use Rattle.std.proofs.lemmas.Int.{ints, clamps, by_lt_z}
+use Rattle.std.proofs.lemmas.Bool.{and_left, and_right, cond-false, cases_lt}
 use Rattle.po_arith.specs.declared.int_type.IntType.{IntType}
 use Rattle.po_arith.specs.declared.interval.Interval.{Interval}
 use Rattle.po_arith.specs.declared.range.Range.{Range}
-use Rattle.po_arith.specs.Types.{IsIntType, IsOfType, least, greatest}
-use Rattle.po_interval.specs.Ranges.{range, interval, some_range, as_interval, whole, part, conv_interval, corners, bits_of, shifted_up, shifts_up, AreAlike, EndsAlike}
+use Rattle.po_arith.specs.Types.{IsIntType, least, greatest}
+use Rattle.po_arith.proofs.Sizes.{small}
+use Rattle.po_arith.specs.Ranges.{range, some_range, corners}
+use Rattle.po_interval.specs.Ranges.{interval, as_interval, whole, part, conv_interval, AreAlike, EndsAlike}
 use Rattle.po_interval.specs.Within.{interval_within}
-use Rattle.po_interval.proofs.Corners.{pow_up}
-use Rattle.po_interval.proofs.Bitwise.{small, fits_between, filled_holds}
-use Rattle.po_interval.proofs.Disjunctions.{few_enough}
-
-pub fits_wide : (z : ℤ) → neg_ℤ (pos (2 ^ 120)) ≤ℤ z → z ≤ℤ pos (2 ^ 120) → FitsSigned w128 z
-fits_wide (pos n) low high = record { sfits = omega (arith, ints) }
-fits_wide (negsuc n) low high = record { sfits = omega (arith, ints) }
-
-pub quotient_fits : (v w : ℤ) → neg_ℤ (pos (2 ^ 64)) ≤ℤ v → v ≤ℤ pos (2 ^ 64) → FitsSigned w128 (int_div v w)
-quotient_fits (pos a) (pos b) low high = let less = div-le_self a b in fits_wide _ (omega (arith, ints)) (omega (arith, ints))
-quotient_fits (pos a) (negsuc b) low high = let less = div-le_self a (suc b) in fits_wide _ (omega (arith, ints)) (omega (arith, ints))
-quotient_fits (negsuc a) (pos b) low high = let less = div-le_self (suc a) b in fits_wide _ (omega (arith, ints)) (omega (arith, ints))
-quotient_fits (negsuc a) (negsuc b) low high = let less = div-le_self (suc a) (suc b) in fits_wide _ (omega (arith, ints)) (omega (arith, ints))
-
--- 1 shifted to the left
-pub power_is : (k : ℕ) → k ≤ 100 → to_z w128 ((1 * 2 ^ k) % 2 ^ 128) ≡ pos (2 ^ k)
-power_is k few =
-    let less = pow_below k 127 (omega arith) in
-    let one : 1 * 2 ^ k ≡ 2 ^ k = omega arith in
-    let under : 2 ^ k < 2 ^ 128 = omega arith in
-    rw (one, mod-eq_of_lt under) (to_z_pos w128 (2 ^ k) less)
-
-pub bits_few : (v : ℤ) → pos 0 ≤ℤ v → v <ℤ pos (2 ^ 64) → bits_of v ≤ 100
-bits_few v some less = few_enough (bits_of v) v less (filled_holds v (fits_between v (omega (arith, ints)) less) some).1
-
-pub count_few : (n : ℤ) → pos 0 ≤ℤ n → n <ℤ pos 64 → unsigned_abs n ≤ 63
-count_few (pos n) low high = omega (arith, ints)
-count_few (negsuc n) low high = absurd (omega (arith, ints))
-
-size_small : (v : ℤ) → pos 0 ≤ℤ v → v <ℤ pos (2 ^ 64) → unsigned_abs v ≤ 2 ^ 64 - 1
-size_small (pos n) low high = omega (arith, ints)
-size_small (negsuc n) low high = absurd (omega (arith, ints))
-
-pub shifted_fits : (v n : ℤ) → pos 0 ≤ℤ v → v <ℤ pos (2 ^ 64) → pos 0 ≤ℤ n → n <ℤ pos 64 → FitsSigned w128 (v *ℤ pos (2 ^ unsigned_abs n))
-shifted_fits v n low high some few =
-    fits_signed_mul w128 v (pos (2 ^ unsigned_abs n)) (2 ^ 64 - 1) (2 ^ 63) (size_small v low high) (pow_up (unsigned_abs n) 63 (count_few n some few)) (lit< tt)
 
 far_up : (n : ℕ) → 2 ^ 64 ≤ n → pos (2 ^ 64) ≤ℤ pos n
 far_up n far = omega (arith, ints)
@@ -158,57 +122,3 @@ conv_same t r s is alike = by t.signed
     by : (b : Bool) → cond b (as_interval (part t (interval r.lo r.hi))) (Some (kept t (interval r.lo r.hi))) ≡ cond b (as_interval (part t (interval s.lo s.hi))) (Some (kept t (interval s.lo s.hi)))
     by true = ap as_interval (parts_same t r s is alike)
     by false = ap Some (kept_same t r s is alike)
-
-pub shifts_is : (r s : Range) (lo hi most : ℤ) → int_le (pos 0) r.hi ≡ true → most ≡ int_max r.lo (pos 0) → lo ≡ shifted_up most s.lo → hi ≡ shifted_up r.hi s.hi → Some (range lo hi) ≡ shifts_up r s
-shifts_is r s lo hi most test most_is lo_is hi_is = rw (lo_is, hi_is, most_is) (sym (cond-true (int_le (pos 0) r.hi) (Some (range (shifted_up (int_max r.lo (pos 0)) s.lo) (shifted_up r.hi s.hi))) None test))
-
--- sums, differences and products of numbers of a type
-pub of_type_small : (t : IntType) (v : ℤ) → IsIntType t → IsOfType t v → (neg_ℤ (pos (2 ^ 120)) ≤ℤ v) × (v ≤ℤ pos (2 ^ 120))
-of_type_small t v is of =
-    let s = small t is in
-    let low = s.low in
-    let high = s.high in
-    let above = of.0 in
-    let below = of.1 in
-    (omega (arith, ints), omega (arith, ints))
-
-pub sum_fits : (t : IntType) (v w : ℤ) → IsIntType t → IsOfType t v → IsOfType t w → FitsSigned w128 (v +ℤ w)
-sum_fits t v w is v_of w_of =
-    let s = small t is in
-    let low = s.low in
-    let high = s.high in
-    let v_low = v_of.0 in
-    let v_high = v_of.1 in
-    let w_low = w_of.0 in
-    let w_high = w_of.1 in
-    fits_wide _ (omega (arith, ints)) (omega (arith, ints))
-
-pub difference_fits : (t : IntType) (v w : ℤ) → IsIntType t → IsOfType t v → IsOfType t w → FitsSigned w128 (v -ℤ w)
-difference_fits t v w is v_of w_of =
-    let s = small t is in
-    let low = s.low in
-    let high = s.high in
-    let v_low = v_of.0 in
-    let v_high = v_of.1 in
-    let w_low = w_of.0 in
-    let w_high = w_of.1 in
-    fits_wide _ (omega (arith, ints)) (omega (arith, ints))
-
-size_most : (v : ℤ) → neg_ℤ (pos (2 ^ 63)) ≤ℤ v → v ≤ℤ pos (2 ^ 63) → unsigned_abs v ≤ 2 ^ 63
-size_most (pos n) low high = omega (arith, ints)
-size_most (negsuc n) low high = omega (arith, ints)
-
-size_of_type : (t : IntType) (v : ℤ) → IsIntType t → t.signed ≡ true → IsOfType t v → unsigned_abs v ≤ 2 ^ 63
-size_of_type t v is kind of =
-    let s = small t is in
-    let some = s.some_bits in
-    let few = s.few_bits in
-    let half = pow_up (t.bits - 1) 63 (omega arith) in
-    let last : greatest t ≡ pos (2 ^ (t.bits - 1) - 1) = rw kind refl in
-    let low = s.low in
-    let above = of.0 in
-    let below = of.1 in
-    size_most v (omega (arith, ints)) (omega (arith, ints))
-
-pub product_fits : (t : IntType) (v w : ℤ) → IsIntType t → t.signed ≡ true → IsOfType t v → IsOfType t w → FitsSigned w128 (v *ℤ w)
-product_fits t v w is kind v_of w_of = fits_signed_mul w128 v w (2 ^ 63) (2 ^ 63) (size_of_type t v is kind v_of) (size_of_type t w is kind w_of) (lit< tt)

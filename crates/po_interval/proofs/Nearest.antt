@@ -8,11 +8,11 @@ use Rattle.std.specs.Ordering.{int_cmp}
 use Rattle.std.specs.BTreeMap.{is_at}
 use Rattle.std.proofs.lemmas.Bool.{and_parts, and_from, or_cases, not-true}
 use Rattle.std.proofs.lemmas.Bool.Decides.{Decides-int_eq}
+use Rattle.po_arith.proofs.Comparing.{le_tells, le_since}
 use Rattle.po_interval.specs.Sets.{IsAmong}
 use Rattle.po_interval.specs.Within.{is_lower, is_upper}
 use Rattle.po_interval.specs.Rounding.{greater_of, lesser_of, down_to, up_to, greatest_to, least_from, least_fine, greatest_fine, fine_to, fine_from, is_fine, is_threshold, round_down, round_up, low_end, high_end, IsThreshold, IsNearestDown, IsNearestUp, RoundingWidens}
 use Rattle.po_interval.specs.declared.thresholds.Thresholds.{Thresholds}
-use Rattle.po_interval.proofs.Ends.{le_tells, le_since}
 
 -- end is the greatest number of a kind that isn't above v, or the least one that isn't below
 abbrev pub IsGreatest : (ℤ → Type 0) → ℤ → Option ℤ → Type 0

@@ -1,25 +1,19 @@
 -- Wider ranges have wider parts and conversions.
 use Rattle.std.proofs.Common.{◌≡◌, Bool, true, false, cond, arith, refl, sym, ◌∙◌}
-use Rattle.std.specs.Prelude.{ℤ, ◌≤ℤ◌, Option, Some, None, int_le}
+use Rattle.std.specs.Prelude.{ℤ, ◌≤ℤ◌, Option, Some, None}
 use Rattle.std.proofs.lemmas.Int.{ints, clamps}
 use Rattle.std.proofs.lemmas.Bool.{and_parts, and_from}
 use Rattle.po_arith.specs.declared.int_type.IntType.{IntType}
 use Rattle.po_arith.specs.declared.interval.Interval.{Interval}
 use Rattle.po_arith.specs.declared.range.Range.{Range}
 use Rattle.po_arith.specs.Types.{IsIntType, least, greatest}
+use Rattle.po_arith.proofs.Comparing.{le_tells, le_since}
+use Rattle.po_arith.specs.Ranges.{IsPart}
 use Rattle.po_interval.specs.Within.{is_lower, is_upper, interval_within}
-use Rattle.po_interval.specs.Ranges.{range, interval, IsPart, AreWithin, low_cut, high_cut, some_range, cut, whole, part, as_interval, settled}
+use Rattle.po_interval.specs.Ranges.{interval, AreWithin, low_cut, high_cut, cut, whole, part, as_interval, settled}
 use Rattle.po_interval.specs.Results.{ConvIsMonotone}
-use Rattle.po_interval.proofs.Ends.{le_tells, le_since, ends_ordered}
-use Rattle.po_interval.proofs.Covers.{le_false}
-
-pub some_range_part : (lo hi lo' hi' : ℤ) → lo' ≤ℤ lo → hi ≤ℤ hi' → IsPart (some_range lo hi) (some_range lo' hi')
-some_range_part lo hi lo' hi' low high = by (int_le lo hi) (int_le lo' hi') refl refl
-  where
-    by : (b c : Bool) → int_le lo hi ≡ b → int_le lo' hi' ≡ c → IsPart (cond b (Some (range lo hi)) None) (cond c (Some (range lo' hi')) None)
-    by false c test other = tt
-    by true true test other = (low, high)
-    by true false test other = let up = le_tells lo hi test in let less = le_false lo' hi' other in absurd (omega (arith, ints))
+use Rattle.po_interval.proofs.Ends.{ends_ordered}
+use Rattle.po_arith.proofs.RangesWiden.{some_range_part}
 
 low_cut_part : (low : ℤ) (a c : Option ℤ) → is_lower c a ≡ true → low_cut low c ≤ℤ low_cut low a
 low_cut_part low None None test = omega (arith, ints)

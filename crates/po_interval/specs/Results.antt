@@ -1,5 +1,5 @@
 -- What an operation gives of whole numbers of a type (6.5.3.3, 6.5.5 to 6.5.12, 6.3.1.3): none where the operation isn't allowed to happen.
-use Rattle.std.specs.Prelude.{ℕ, ◌≤◌, ◌-◌, ◌^◌, ◌≡◌, ◌≤ℤ◌, ◌<ℤ◌, Bool, true, false, cond, not, ◌&&◌, ℤ, pos, neg_ℤ, ◌+ℤ◌, ◌-ℤ◌, ◌*ℤ◌, Option, Some, None, int_le, int_lt, int_div, int_rem}
+use Rattle.std.specs.Prelude.{◌-◌, ◌^◌, ◌≡◌, Bool, true, false, cond, not, ◌&&◌, ℤ, pos, neg_ℤ, ◌+ℤ◌, ◌-ℤ◌, ◌*ℤ◌, Option, Some, None, int_le, int_lt, int_div, int_rem}
 use Rattle.std.specs.Int.{int_rem_euclid, int_bit_and, int_bit_or, int_bit_xor, w128}
 use Rattle.std.specs.Ordering.{int_eq}
 use Rattle.po_arith.specs.declared.int_type.IntType.{IntType}
@@ -10,8 +10,9 @@ use Rattle.po_base.specs.declared.operators.Op.{Op}
 use Rattle.po_base.specs.declared.operators.Op.TheVariants as op
 use Rattle.po_base.specs.declared.operators.UnOp.{UnOp}
 use Rattle.po_base.specs.declared.operators.UnOp.TheVariants as un
+use Rattle.po_arith.specs.Ranges.{shifted_up, shifted_down}
 use Rattle.po_interval.specs.Within.{interval_within}
-use Rattle.po_interval.specs.Ranges.{Holds, AreWithin, shifted_up, shifted_down, bits_of, complement_from, takes_count, bin_interval, un_interval, conv_interval}
+use Rattle.po_interval.specs.Ranges.{Holds, AreWithin, complement_from, takes_count, bin_interval, un_interval, conv_interval}
 
 abbrev pub is_between : ℤ → ℤ → ℤ → Bool
 is_between low high v = int_le low v && int_le v high
@@ -74,10 +75,6 @@ unary op t v = conv t (un_exact op t v)
 -- a conversion to an unsigned type gives the number of the type that differs by a multiple of 2 to the width (6.3.1.3p2)
 abbrev pub ModuloIsC99 : Type 0
 ModuloIsC99 = (t : IntType) (v : ℤ) → IsIntType t → t.signed ≡ false → IsWrapped t v (modulo t v)
-
--- as many bits as a number needs hold it, and so do no fewer
-abbrev pub BitsAreLeast : Type 0
-BitsAreLeast = (v : ℤ) → pos 0 ≤ℤ v → v <ℤ pos (2 ^ 64) → (v <ℤ pos (2 ^ bits_of v)) × ((k : ℕ) → v <ℤ pos (2 ^ k) → bits_of v ≤ k)
 
 -- every result of numbers of the type (how far to shift is any number) that lie in the operands lies in the interval of results
 abbrev pub BinCovers : Op → Type 0

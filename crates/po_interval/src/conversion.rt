@@ -1,7 +1,8 @@
 ghost use Rattle.std.specs.Prelude.{◌≡◌, ◌≤ℤ◌, IfSome};
 ghost use Rattle.po_arith.specs.Types.{IsIntType};
 ghost use Rattle.po_interval.specs.Ranges as ranges;
-ghost use Rattle.po_interval.specs.Ranges.{IsShort};
+ghost use Rattle.po_arith.specs.Ranges as arith;
+ghost use Rattle.po_arith.specs.Ranges.{IsShort};
 
 use crate::within::interval_within;
 use po_arith::{IntType, Interval, Range, limits};
@@ -28,7 +29,7 @@ fn high_cut(high: i128, end: Option<i128>) -> i128
 
 /// The numbers between two, where there are some.
 fn some_range(lo: i128, hi: i128) -> Option<Range>
-    ensures value { result ≡ ranges.some_range lo hi }
+    ensures value { result ≡ arith.some_range lo hi }
     ensures ends { IfSome result (λ r. (r.lo ≡ lo) × (r.hi ≡ hi) × (lo ≤ℤ hi)) }
 {
     if lo <= hi {

@@ -1,7 +1,7 @@
 ghost use Rattle.po_interval.specs.Within as within;
 ghost use Rattle.po_interval.specs.Members as members;
 ghost use Rattle.po_interval.specs.Rounding.{RoundsToNearest, RoundingWidens};
-ghost use Rattle.po_interval.specs.Results.{BinCovers, UnCovers, ConvCovers, BinIsMonotone, UnIsMonotone, ConvIsMonotone, ModuloIsC99, BitsAreLeast};
+ghost use Rattle.po_interval.specs.Results.{BinCovers, UnCovers, ConvCovers, BinIsMonotone, UnIsMonotone, ConvIsMonotone, ModuloIsC99};
 ghost use Rattle.po_interval.specs.Gathering.{BinMembersCover, UnMembersCover, ConvMembersCover, BinMembersAreMonotone, UnMembersAreMonotone, ConvMembersAreMonotone, ResultsAreOfType};
 ghost use Rattle.po_base.specs.declared.operators.Op.{Op};
 ghost use Rattle.po_base.specs.declared.operators.UnOp.{UnOp};
@@ -54,10 +54,9 @@ pub fn wider_operands_have_wider_results()
     ensures converted { ConvIsMonotone }
 {}
 
-/// What the definitions of results are made of is C's: a number modulo 2 to a width, and the bits that hold a number. It does nothing.
+/// A conversion to an unsigned type is C's: the number modulo 2 to the width. It does nothing.
 pub fn results_are_those_of_c()
-    ensures modulo { ModuloIsC99 }
-    ensures bits { BitsAreLeast }
+    ensures { ModuloIsC99 }
 {}
 
 /// Members of results allow each result. It does nothing.

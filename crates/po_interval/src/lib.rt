@@ -3,7 +3,6 @@
 //! For each operation of C's integer types the crate gives the interval of its results.
 #![tactic(auto)]
 
-mod arithmetic;
 mod bits;
 mod conversion;
 mod gathering;

@@ -1,12 +1,16 @@
 ghost use Rattle.std.specs.Prelude.{◌≡◌, ◌^◌, ◌≤ℤ◌, ◌<ℤ◌, pos, negsuc, Some, false, IfSome};
 ghost use Rattle.po_arith.specs.Types.{IsIntType};
+ghost use Rattle.po_arith.specs.Ranges as arith;
+ghost use Rattle.po_arith.specs.Ranges.{IsShort, IsCount};
 ghost use Rattle.po_interval.specs.Ranges as ranges;
-ghost use Rattle.po_interval.specs.Ranges.{IsShort, IsCount};
+ghost use Rattle.po_interval.specs.Ranges.{EndsAlike};
 
-use crate::arithmetic::{differences, products, quotients, remainders, sums};
-use crate::bits::{conjunctions, disjunctions, shifts_down, shifts_up};
+use crate::bits::{conjunctions, disjunctions};
 use crate::conversion::{cut, part, settled};
-use po_arith::{IntType, Interval, Range, limits};
+use po_arith::{
+    IntType, Interval, Range, corners, differences, limits, quotients, remainders, shifts_down,
+    shifts_up, sums,
+};
 use po_base::{Op, UnOp};
 
 /// What a comparison gives.
@@ -21,10 +25,22 @@ fn counts(t: IntType, b: &Interval) -> Option<Range>
     cut(0, (t.bits - 1) as i128, b)
 }
 
+/// The products, as far as the types reach: those of two unsigned numbers of 64 bits may pass 128 bits.
+fn products(r: &Range, s: &Range) -> Range
+    ensures { EndsAlike result (arith.products r.now s.now) }
+{
+    corners(
+        r.lo.saturating_mul(s.lo),
+        r.lo.saturating_mul(s.hi),
+        r.hi.saturating_mul(s.lo),
+        r.hi.saturating_mul(s.hi),
+    )
+}
+
 /// What the type makes of all products.
 fn settled_products(t: IntType, r: &Range, s: &Range) -> Option<Interval>
     requires { IsIntType t }
-    ensures { result ≡ ranges.settled t (Some (ranges.products r.now s.now)) }
+    ensures { result ≡ ranges.settled t (Some (arith.products r.now s.now)) }
 {
     settled(t, Some(products(r, s)))
 }

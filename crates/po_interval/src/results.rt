@@ -3,9 +3,8 @@ ghost use Rattle.po_arith.specs.Types.{IsIntType, IsOfType};
 ghost use Rattle.po_interval.specs.Ranges.{takes_count};
 ghost use Rattle.po_interval.specs.Results as results;
 
-use crate::bits::{shifted_down, shifted_up};
 use crate::operations::complement_from;
-use po_arith::{IntType, div_trunc, limits, rem_trunc, wrap};
+use po_arith::{IntType, div_trunc, limits, rem_trunc, shifted_down, shifted_up, wrap};
 use po_base::{Op, UnOp};
 
 fn is_between(low: i128, high: i128, v: i128) -> bool

@@ -1,6 +1,6 @@
 -- A predicate holds over other places in another frame, where the choices of the places are the same.
-use Rattle.std.proofs.Common.{◌≡◌, refl, subst}
-use Rattle.std.specs.Prelude.{ℤ, pos, List, Option, Some, None}
+use Rattle.std.proofs.Common.{◌≡◌, refl}
+use Rattle.std.specs.Prelude.{ℤ, List, Option, Some, None}
 use Rattle.std.specs.Option.{option_map}
 use Rattle.po_pred.specs.declared.pred.Place.{Place}
 use Rattle.po_pred.specs.declared.pred.Pred.{Pred}

@@ -1,6 +1,6 @@
 -- With the arguments put in a predicate holds in the caller's frame exactly where it holds in the callee's.
 use Rattle.std.proofs.Common.{◌≡◌, ℕ, List, refl, sym, ap, subst, ◌∙◌, inl, inr, arith}
-use Rattle.std.specs.Prelude.{ℤ, pos, ◌+ℤ◌, ◌≤ℤ◌, Option, Some, None, slice_get}
+use Rattle.std.specs.Prelude.{ℤ, pos, ◌≤ℤ◌, Option, Some, None, slice_get}
 use Rattle.std.proofs.lemmas.Int.{ints}
 use Rattle.po_base.specs.declared.operand.Opnd.{Opnd}
 use Rattle.po_base.specs.declared.operand.Opnd.TheVariants as operand
@@ -8,12 +8,12 @@ use Rattle.po_pred.specs.declared.pred.Atom.{Atom}
 use Rattle.po_pred.specs.declared.pred.Atom.TheVariants.{Reg, Param}
 use Rattle.po_pred.specs.declared.pred.Place.{Place}
 use Rattle.po_pred.specs.declared.pred.Pred.{Pred}
-use Rattle.po_pred.specs.Subst.{moved_to, moved_to_found, put_place, null_place, pointed_to, pointed_to_found, put_pointer, put_in}
+use Rattle.po_pred.specs.Subst.{moved_to, moved_to_found, put_place, pointed_to, pointed_to_found, put_pointer, put_in}
 use Rattle.po_memory.specs.declared.block.Block.{Block}
 use Rattle.po_memory.specs.declared.frame.Frame.{Frame}
 use Rattle.po_memory.specs.declared.value.Value.{Value}
-use Rattle.po_memory.specs.declared.value.Value.TheVariants.{Number, Null, Pointer, Wild}
-use Rattle.po_memory.specs.Values.{moved, IsPointer, register_value, HasPointer, ChoosesPointer, HasNumber, ChoosesNumber}
+use Rattle.po_memory.specs.declared.value.Value.TheVariants.{Number, Null}
+use Rattle.po_memory.specs.Values.{moved, IsPointer}
 use Rattle.po_memory.specs.Holding.{Holds}
 use Rattle.po_memory.specs.Passing.{HasValue, ArePassed, ParameterIs, IsNumber, IsPointerPlace, IsNumberPlace, PlacesAre, SubstKeepsHolds}
 use Rattle.po_memory.proofs.General.{some_same, zip_at}

@@ -1,5 +1,5 @@
 -- When a predicate holds in a frame and a memory: for each choice of its places, and never where a place has no value.
-use Rattle.std.specs.Prelude.{ℤ, pos, ◌≡◌, ◌≢◌, ◌*ℤ◌, ◌≤ℤ◌, List, Some}
+use Rattle.std.specs.Prelude.{pos, ◌≡◌, ◌≢◌, ◌*ℤ◌, ◌≤ℤ◌, List, Some}
 use Rattle.po_pred.specs.declared.pred.Pred.{Pred}
 use Rattle.po_pred.specs.declared.pred.Pred.TheVariants.{NotNull, Live, Span, Filled, RegSet, Writable, Nonzero, NoOver, IntIn, Aligned, SameBlock, HeapStart, Terminated, Apart, RoomFor, Never}
 use Rattle.po_memory.specs.declared.block.Block.{Block}

@@ -1,4 +1,7 @@
 pub mod Values
 pub mod Blocks
 pub mod Holding
+pub mod Bytes
+pub mod Accesses
+pub mod Since
 pub mod Passing

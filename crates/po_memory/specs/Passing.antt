@@ -1,5 +1,5 @@
 -- Arguments that are passed to a called function, and a predicate on its parameters.
-use Rattle.std.specs.Prelude.{ℕ, ℤ, pos, ◌≡◌, ◌⊎◌, ◌↔◌, ◌≤ℤ◌, List, Option, Some, None, slice_get}
+use Rattle.std.specs.Prelude.{ℤ, pos, ◌≡◌, ◌⊎◌, ◌↔◌, ◌≤ℤ◌, List, Option, Some, None, slice_get}
 use Rattle.std.specs.List.{AllZip}
 use Rattle.po_base.specs.declared.operand.Opnd.{Opnd}
 use Rattle.po_base.specs.declared.operand.Opnd.TheVariants as operand

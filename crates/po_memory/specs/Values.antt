@@ -1,5 +1,5 @@
 -- Values, and the values that the places of a predicate may have in a frame.
-use Rattle.std.specs.Prelude.{ℕ, ℤ, pos, ◌≡◌, ◌+ℤ◌, ◌≤ℤ◌, List, Option, Some, None, slice_get}
+use Rattle.std.specs.Prelude.{ℕ, ℤ, pos, ◌≡◌, ◌+ℤ◌, ◌≤ℤ◌, Option, Some, None, slice_get}
 use Rattle.po_pred.specs.declared.pred.Atom.{Atom}
 use Rattle.po_pred.specs.declared.pred.Atom.TheVariants as atom
 use Rattle.po_pred.specs.declared.pred.Place.{Place}

@@ -12,7 +12,7 @@ use Rattle.po_pred.specs.declared.pred.Place.{Place}
 use Rattle.po_pred.specs.declared.pred.Pred.{Pred}
 use Rattle.po_pred.specs.declared.pred.Pred.TheVariants.{NotNull, Live, Span, Filled, RegSet, Writable, Nonzero, NoOver, IntIn, Aligned, SameBlock, HeapStart, Terminated, Apart, RoomFor, Never}
 use Rattle.po_pred.specs.declared.view.View.{View}
-use Rattle.po_pred.specs.View.{view_of, viewed, places_of, added}
+use Rattle.po_pred.specs.View.{view_of, viewed, added}
 use Rattle.po_pred.specs.OrderLaws.{viewed_back}
 use Rattle.po_pred.specs.Finite.{IsNumber, IsOffset, IsPlaceFrom, IsPlaceOver, IsOver, crossed, numbers_below, numbers_from, all_numbers, all_offsets, placed, parameter_places, optional_places, all_operators, Head, Scale, Sides, Ends, Left, Right, joined, all_heads, all_scales, all_left, all_sides, all_right, all_ends, all_views, predicates_over}
 use Rattle.po_pred.proofs.General.{Has, contains, contains_map, contains_flat_map}

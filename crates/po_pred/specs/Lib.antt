@@ -1,5 +1,6 @@
 pub mod View
 pub mod Order
+pub mod Hashing
 pub mod OrderLaws
 pub mod Spelling
 pub mod Subst

@@ -1,5 +1,5 @@
 -- The order of predicates.
-use Rattle.std.specs.Prelude.{ℕ, ℤ, List, [], ◌∷◌, Option, Some, None, ◌≡◌, ◌↔◌}
+use Rattle.std.specs.Prelude.{ℕ, Option, Some, None, ◌≡◌, ◌↔◌}
 use Rattle.std.specs.Option.{option_cmp}
 use Rattle.std.specs.declared.cmp.Ordering.{Ordering}
 use Rattle.std.specs.declared.cmp.Ordering.TheVariants.{Less, Equal, Greater}

@@ -13,7 +13,6 @@ use Rattle.po_pred.specs.declared.pred.Atom.TheVariants.{Reg, Param}
 use Rattle.po_pred.specs.declared.pred.Place.{Place}
 use Rattle.po_pred.specs.declared.pred.Over.{Over}
 use Rattle.po_pred.specs.declared.pred.Over.TheVariants.{Add, Sub, Mul, Div, Rem, Shl, Neg}
-use Rattle.po_pred.specs.declared.pred.Why.{Why}
 use Rattle.po_pred.specs.declared.pred.Why.TheVariants.{Unread, End, Extern}
 use Rattle.po_pred.specs.declared.pred.Pred.{Pred}
 use Rattle.po_pred.specs.declared.pred.Pred.TheVariants.{NotNull, Live, Span, Filled, RegSet, Writable, Nonzero, NoOver, IntIn, Aligned, SameBlock, HeapStart, Terminated, Apart, RoomFor, Never}
@@ -183,3 +182,11 @@ equal_are_same p q =
     let test = equal_test (pred_cmp p q) in
     let order = pred_order.same p q in
     (λ h. order.0 (test.0 h), λ e. test.1 (order.1 e))
+
+-- ---- what is read from equal ones is equal
+
+pub alike_places : {X : Type 0} (f : Place → X) (p q : Place) → IsTrue (eq_by_cmp place_cmp p q) → f p ≡ f q
+alike_places f p q h = ap f (place_same p q ((equal_test (place_cmp p q)).0 h))
+
+pub alike_predicates : {X : Type 0} (f : Pred → X) (p q : Pred) → IsTrue (eq_by_cmp pred_cmp p q) → f p ≡ f q
+alike_predicates f p q h = ap f ((equal_are_same p q).0 h)

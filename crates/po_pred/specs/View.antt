@@ -1,6 +1,5 @@
 -- Predicates seen as their parts, whatever their kind. Order, equality, weight, spelling and finiteness are said of this view.
 use Rattle.std.specs.Prelude.{ℕ, ℤ, pos, negsuc, List, [], ◌∷◌, Option, Some, None, slice_index_or, unwrap_or}
-use Rattle.po_pred.specs.declared.pred.Over.{Over}
 use Rattle.po_pred.specs.declared.pred.Over.TheVariants.{Add}
 use Rattle.po_pred.specs.declared.pred.Why.{Why}
 use Rattle.po_pred.specs.declared.pred.Why.TheVariants.{Unread, End, Extern}

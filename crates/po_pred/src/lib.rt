@@ -2,6 +2,7 @@
 //! their weight and their spelling, and arguments put in the places of parameters.
 #![tactic(auto)]
 
+mod hashing;
 mod laws;
 mod order;
 mod pred;

@@ -10,7 +10,8 @@ use crate::pred::{Atom, Over, Place, Pred};
 use crate::view::{View, view_of};
 use std::cmp::Ordering;
 
-fn atom_rank(place: &Place) -> u8
+/// Whether a place has no atom, a register or a parameter, as a number.
+pub(crate) fn atom_rank(place: &Place) -> u8
     ensures { result ≡ order.atom_rank place.now.atom }
 {
     match place.atom {
@@ -20,7 +21,8 @@ fn atom_rank(place: &Place) -> u8
     }
 }
 
-fn atom_number(place: &Place) -> u32
+/// The number of the atom of a place, or 0.
+pub(crate) fn atom_number(place: &Place) -> u32
     ensures { result ≡ order.atom_number place.now.atom }
 {
     match place.atom {
@@ -74,7 +76,8 @@ impl Ord for Place {
     }
 }
 
-fn operator_rank(op: &Option<Over>) -> u8
+/// The number of an operator in their order, or 0.
+pub(crate) fn operator_rank(op: &Option<Over>) -> u8
     ensures { result ≡ order.operator_rank op.now }
 {
     match op {

@@ -1,7 +1,7 @@
 use po_base::RegNo;
 
 /// What a place stands on: a register of the frame, or an argument at the function's entry, counted from 0.
-#[derive(Clone, Copy, Debug, PartialEq, Eq, PartialOrd, Ord)]
+#[derive(Clone, Copy, Debug, PartialEq, Eq, PartialOrd, Ord, Hash)]
 pub enum Atom {
     Reg(RegNo),
     Param(u32),
@@ -16,7 +16,7 @@ pub struct Place {
 }
 
 /// The operator of an overflow predicate (C99 6.5p5).
-#[derive(Clone, Copy, Debug, PartialEq, Eq)]
+#[derive(Clone, Copy, Debug, PartialEq, Eq, Hash)]
 pub enum Over {
     /// C99 6.5.6p5.
     Add,
@@ -35,7 +35,7 @@ pub enum Over {
 }
 
 /// Why a node is never to be reached.
-#[derive(Clone, Copy, Debug, PartialEq, Eq)]
+#[derive(Clone, Copy, Debug, PartialEq, Eq, Hash)]
 pub enum Why {
     /// The function's body is outside the language that is read.
     Unread,
@@ -46,7 +46,7 @@ pub enum Why {
 }
 
 /// By what an obligation is closed.
-#[derive(Clone, Copy, Debug, PartialEq, Eq)]
+#[derive(Clone, Copy, Debug, PartialEq, Eq, Hash)]
 pub enum Rule {
     /// No run reaches the node.
     Dead,

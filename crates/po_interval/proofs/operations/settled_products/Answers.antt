@@ -1,5 +1,5 @@
 use Rattle.std.proofs.Common.{◌∙◌}
-use Rattle.po_interval.specs.Ranges.{products}
+use Rattle.po_arith.specs.Ranges.{products}
 use Rattle.po_interval.proofs.Machine.{conv_same}
 use Rattle.po_interval.proofs.operations.settled_products.Goals as goal
 

@@ -2,7 +2,7 @@ use Rattle.std.proofs.Common.{rules, refl, FitsSigned, arith}
 use Rattle.std.specs.Prelude.{◌-ℤ◌}
 use Rattle.std.specs.Int.{w128}
 use Rattle.std.proofs.lemmas.Int.{to_z-of_z, ints}
-use Rattle.po_interval.proofs.Machine.{fits_wide}
+use Rattle.po_arith.proofs.Sizes.{fits_wide}
 use Rattle.po_interval.proofs.operations.un_outcomes.Goals as goal
 
 pub returns-in-Not : goal.returns-in-Not

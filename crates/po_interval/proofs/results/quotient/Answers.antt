@@ -1,5 +1,5 @@
 use Rattle.std.proofs.lemmas.Int.{to_z-of_z}
-use Rattle.po_interval.proofs.Machine.{of_type_small}
+use Rattle.po_arith.proofs.Sizes.{of_type_small}
 use Rattle.po_interval.proofs.results.quotient.Goals as goal
 
 pub div_trunc-requires-clause-a : goal.div_trunc-requires-clause-a

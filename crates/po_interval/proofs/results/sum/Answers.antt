@@ -2,7 +2,7 @@ use Rattle.std.proofs.Common.{FitsSigned}
 use Rattle.std.specs.Prelude.{◌+ℤ◌}
 use Rattle.std.specs.Int.{w128}
 use Rattle.std.proofs.lemmas.Int.{to_z-of_z}
-use Rattle.po_interval.proofs.Machine.{sum_fits}
+use Rattle.po_arith.proofs.Sizes.{sum_fits}
 use Rattle.po_interval.proofs.results.sum.Goals as goal
 
 pub returns : goal.returns
