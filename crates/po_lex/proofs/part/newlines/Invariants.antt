@@ -1,6 +1,6 @@
 use Rattle.std.proofs.Common.{◌≡◌, ◌≤◌, take}
 use Rattle.po_lex.specs.Bytes.{newlines}
-use Rattle.po_lex.proofs.place.newlines.Given as goal
+use Rattle.po_lex.proofs.part.newlines.Given as goal
 
 abbrev pub invariant-loop-byte : goal.invariant-loop-byte
 invariant-loop-byte l = record {

@@ -1,6 +1,6 @@
 use Rattle.std.proofs.Common.{◌≡◌, ◌-◌, ◌≤◌, ◌++◌, take, drop, length}
 use Rattle.po_lex.specs.Rows.{front, skip}
-use Rattle.po_lex.proofs.row.row_end.Given as goal
+use Rattle.po_lex.proofs.row.end_of.Given as goal
 
 abbrev pub invariant-loop-end : goal.invariant-loop-end
 invariant-loop-end l = record {

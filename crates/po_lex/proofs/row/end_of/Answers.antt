@@ -1,7 +1,7 @@
 use Rattle.std.proofs.Common.{◌≡◌, true, get_or, arith, sym, ◌∙◌}
 use Rattle.po_lex.specs.Rows.{goes_on}
 use Rattle.po_lex.proofs.Rows.{front_more, skip_on}
-use Rattle.po_lex.proofs.row.row_end.Goals as goal
+use Rattle.po_lex.proofs.row.end_of.Goals as goal
 
 pub loop-end-preserved : goal.loop-end-preserved
 loop-end-preserved c =
