@@ -17,9 +17,9 @@ use Rattle.po_core.specs.declared.report.Report.{Report}
 use Rattle.po_pred.specs.declared.pred.Pred.{Pred}
 use Rattle.po_pred.specs.declared.pred.Rule.{Rule}
 use Rattle.po_pred.specs.Subst.{put_in}
+use Rattle.po_gen.specs.Asks.{Required}
 use Rattle.po_gen.specs.Gen.{gen}
 use Rattle.po_memory.specs.Holding.{Holds}
-use Rattle.po_meaning.specs.Library.{Library}
 use Rattle.po_meaning.specs.States.{State}
 
 -- an obligation with its predicate
@@ -36,8 +36,8 @@ abbrev pub numbered : FunNo → NodeNo → ℕ → List Pred → List Asked
 numbered f n k [] = []
 numbered f n k (q ∷ rest) = (obligation f n (Primary k), q) ∷ numbered f n (k + 1) rest
 
-abbrev pub primaries : Library → Project → FunNo → NodeNo → List Asked
-primaries l p f n = numbered f n 0 (gen l.required p f n)
+abbrev pub primaries : Required → Project → FunNo → NodeNo → List Asked
+primaries required p f n = numbered f n 0 (gen required p f n)
 
 -- ---- the supporting ones
 
@@ -72,20 +72,20 @@ supports p r f n = flat_map (supports_in p f n) r.lines
 -- ---- all, and how they are checked
 
 -- the primary ones first, then the supporting ones
-abbrev pub asked : Library → Project → Report Pred Rule → State → List Asked
-asked l p r s = primaries l p s.top.function s.top.node ++ supports p r s.top.function s.top.node
+abbrev pub asked : Required → Project → Report Pred Rule → State → List Asked
+asked required p r s = primaries required p s.top.function s.top.node ++ supports p r s.top.function s.top.node
 
 -- all those before the place k hold
-abbrev pub HoldBefore : Library → Project → Report Pred Rule → State → ℕ → Type 0
-HoldBefore l p r s k = (j : ℕ) (a : Asked) → j < k → slice_get (asked l p r s) j ≡ Some a → Holds s.top s.memory a.1
+abbrev pub HoldBefore : Required → Project → Report Pred Rule → State → ℕ → Type 0
+HoldBefore required p r s k = (j : ℕ) (a : Asked) → j < k → slice_get (asked required p r s) j ≡ Some a → Holds s.top s.memory a.1
 
-abbrev pub AllHold : Library → Project → Report Pred Rule → State → Type 0
-AllHold l p r s = (j : ℕ) (a : Asked) → slice_get (asked l p r s) j ≡ Some a → Holds s.top s.memory a.1
+abbrev pub AllHold : Required → Project → Report Pred Rule → State → Type 0
+AllHold required p r s = (j : ℕ) (a : Asked) → slice_get (asked required p r s) j ≡ Some a → Holds s.top s.memory a.1
 
 -- o is the first obligation in s that doesn't hold
-pub record FirstViolated (l : Library) (p : Project) (r : Report Pred Rule) (s : State) (o : Obl Pred) : Type 0 where
+pub record FirstViolated (required : Required) (p : Project) (r : Report Pred Rule) (s : State) (o : Obl Pred) : Type 0 where
   pub place : ℕ
   pub pred : Pred
-  pub checked : slice_get (asked l p r s) place ≡ Some (o, pred)
-  pub before : HoldBefore l p r s place
+  pub checked : slice_get (asked required p r s) place ≡ Some (o, pred)
+  pub before : HoldBefore required p r s place
   pub fails : Holds s.top s.memory pred → ⊥

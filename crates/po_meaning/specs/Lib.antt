@@ -9,3 +9,4 @@ pub mod Runs
 pub mod Needs
 pub mod Belongs
 pub mod Shown
+pub mod Laws

@@ -19,7 +19,7 @@ pub record Step (l : Library) (p : Project) (r : Report Pred Rule) (s u : State)
   pub function : Function
   pub instr : Instr
   pub here : StandsAt p s.top function instr
-  pub held : AllHold l p r s
+  pub held : AllHold l.required p r s
   pub goes : StepOf l p function instr s u
 
 -- a run of n steps
@@ -38,9 +38,9 @@ pub record Ends (l : Library) (p : Project) (r : Report Pred Rule) (s : State) :
   pub function : Function
   pub instr : Instr
   pub here : StandsAt p s.top function instr
-  pub held : AllHold l p r s
+  pub held : AllHold l.required p r s
   pub ends : IsEnd l instr s
 
 -- the run isn't stuck here: an obligation is violated, a next state follows, or the run ends
 abbrev pub GoesOn : Library → Project → Report Pred Rule → State → Type 0
-GoesOn l p r s = ((o : Obl Pred) × FirstViolated l p r s o) ⊎ (((u : State) × Step l p r s u) ⊎ Ends l p r s)
+GoesOn l p r s = ((o : Obl Pred) × FirstViolated l.required p r s o) ⊎ (((u : State) × Step l p r s u) ⊎ Ends l p r s)

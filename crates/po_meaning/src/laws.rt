@@ -1,0 +1,31 @@
+ghost use Rattle.po_meaning.specs.Laws.{OneIsFirst, NoneIsFirst, EntryKeepsHolds, PlainStepsStay};
+
+use po_interval::{members_of_results_are_of_type, results_are_allowed};
+use po_memory::subst_keeps_holds;
+
+/// One obligation at most is violated first. It does nothing.
+pub fn first_violated_is_one()
+    ensures { OneIsFirst }
+{}
+
+/// Where all obligations hold none is violated first. It does nothing.
+pub fn steps_violate_nothing()
+    ensures { NoneIsFirst }
+{}
+
+/// Where a function is called, a predicate on its parameters holds of its entry exactly where it holds of the caller with the
+/// arguments put in. It does nothing.
+pub fn entry_keeps_holds()
+    ensures { EntryKeepsHolds }
+{
+    subst_keeps_holds();
+}
+
+/// A step of an instruction that writes a register at most, and neither moves nor follows a pointer, leads from a state that
+/// belongs to a whole project to one that belongs to it. It does nothing.
+pub fn plain_steps_stay()
+    ensures { PlainStepsStay }
+{
+    members_of_results_are_of_type();
+    results_are_allowed();
+}
