@@ -6,3 +6,4 @@ pub mod Answers
 pub mod Hands
 pub mod Indexed
 pub mod Verdicts
+pub mod Made

@@ -24,8 +24,9 @@ use crate::parts::{
 use crate::report::{
     ascending_assumptions, ascending_lines, held_count, is_some_left, untaken_count,
 };
+use crate::shelf::Tables;
 use crate::ticket::Ticket;
-use po_base::{FileNo, FunNo, List, Memory};
+use po_base::{FileNo, Memory};
 use po_core::{
     Event, Hand, Journal, Obl, Report, Rulebook, Verdict, legal_lists_are_orderly,
     quiet_lists_are_least,
@@ -47,7 +48,7 @@ pub struct Ledger<'r, R: Rulebook, J: Naming<R::Pred, R::Rule, R::Table>> {
     marks: Known<R::Pred, R::Rule>,
     hands: Vec<Option<Hand<R::Pred>>>,
     assumed: Assumed<R::Pred>,
-    shelves: Vec<List<(FunNo, R::Table)>>,
+    shelves: Vec<Tables<R::Table>>,
     journal: Log<R::Pred, R::Rule>,
     named: PhantomData<J>,
 }
@@ -228,7 +229,7 @@ impl<'r, R: Rulebook, J: Naming<R::Pred, R::Rule, R::Table>> Ledger<'r, R, J> {
         change(self.book, &mut self.marks, &Remark::Take(file));
         append(&mut self.journal, Event::Take { worker, file });
         set_hand(&mut self.hands, file, Some(Hand { worker, items }));
-        let tables = swap_shelf(&mut self.shelves, file, List::new(alloc));
+        let tables = swap_shelf(&mut self.shelves, file, Tables::new(alloc));
         Ok(Ticket {
             worker,
             file,

@@ -15,6 +15,8 @@ mod parts;
 mod places;
 mod report;
 mod settling;
+mod shelf;
+
 mod ticket;
 
 pub use ledger::Ledger;
