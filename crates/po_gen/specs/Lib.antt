@@ -1,0 +1,5 @@
+pub mod IntTypes
+pub mod Reads
+pub mod Asks
+pub mod Gen
+pub mod Seen

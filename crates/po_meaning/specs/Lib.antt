@@ -1,0 +1,11 @@
+pub mod Operands
+pub mod Library
+pub mod States
+pub mod Pointers
+pub mod Local
+pub mod Steps
+pub mod Checks
+pub mod Runs
+pub mod Needs
+pub mod Belongs
+pub mod Shown
