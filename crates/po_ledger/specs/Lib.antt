@@ -7,3 +7,4 @@ pub mod Hands
 pub mod Indexed
 pub mod Verdicts
 pub mod Made
+pub mod Shelves

@@ -16,7 +16,6 @@ mod places;
 mod report;
 mod settling;
 mod shelf;
-
 mod ticket;
 
 pub use ledger::Ledger;

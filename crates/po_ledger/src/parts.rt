@@ -225,10 +225,7 @@ pub(crate) fn no_hands<P: Copy>(alloc: Global, files: u32) -> Result<Vec<Option<
 }
 
 /// A place for each file, for the tables of its functions.
-pub(crate) fn empty_shelves<T: Drop>(
-    alloc: Global,
-    files: u32,
-) -> Result<Vec<Tables<T>>, Memory>
+pub(crate) fn empty_shelves<T: Drop>(alloc: Global, files: u32) -> Result<Vec<Tables<T>>, Memory>
     ensures { IfOk result (λ shelves. shelves.items ≡ replicate files []) }
 {
     let mut shelves = Vec::new(alloc);

@@ -81,7 +81,8 @@ impl<R: Rulebook, J: Naming<R::Pred, R::Rule, R::Table>> Ticket<R, J> {
 
     /// The tables that were made so far, each that of its function.
     pub(crate) fn into_tables(self) -> Tables<R::Table>
-        ensures { AreTables J.book result }
+        ensures right { AreTables J.book result }
+        ensures all { result ≡ self.tables }
     {
         let Ticket { tables, .. } = self;
         tables
