@@ -8,3 +8,6 @@ mod Widths
 mod Unique
 mod Divisions
 mod Longest
+mod Lines
+mod Selected
+mod Placed

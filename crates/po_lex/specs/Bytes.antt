@@ -5,6 +5,10 @@ use Rattle.std.specs.Prelude.{ℕ, Bool, ◌==◌, ◌&&◌, ◌||◌, nat_le, L
 abbrev pub is_space : ℕ → Bool
 is_space c = (c == 32) || (c == 9) || (c == 11) || (c == 12) || (c == 13)
 
+-- a space or a tab
+abbrev pub is_gap : ℕ → Bool
+is_gap c = (c == 32) || (c == 9)
+
 abbrev pub is_digit : ℕ → Bool
 is_digit c = nat_le 48 c && nat_le c 57
 

@@ -1,9 +1,10 @@
 -- The division of a file's bytes into blanks, comments, directives and tokens, and the tokens of a division.
 use Rattle.std.specs.Prelude.{ℕ, ◌≡◌, ◌+◌, ◌-◌, ◌^◌, ◌<◌, ◌≤◌, ◌≢◌, Bool, true, ◌==◌, ◌&&◌, ◌||◌, List, [], ◌∷◌, ◌++◌, length, drop, Option, Some, None, slice_index}
+use Rattle.std.specs.List.{All}
 use Rattle.po_base.specs.declared.token.TokenKind.{TokenKind}
 use Rattle.po_base.specs.declared.token.Token.{Token}
 use Rattle.po_base.specs.declared.token.Tokens.{Tokens}
-use Rattle.po_lex.specs.Bytes.{newlines}
+use Rattle.po_lex.specs.Bytes.{newlines, is_gap}
 use Rattle.po_lex.specs.Rows.{skip}
 use Rattle.po_lex.specs.Leads.{lead_of, opening, row_of, closing, kind_of}
 use Rattle.po_lex.specs.Directives.{says, is_proper}
@@ -38,7 +39,7 @@ pub record Stands (fresh : Bool) (bytes : List ℕ) (part : Part) (rest : List �
 -- whether only spaces and tabs stand on the line up to the end of these bytes
 abbrev pub freshly : Bool → List ℕ → Bool
 freshly fresh [] = fresh
-freshly fresh (c ∷ cs) = freshly ((c == 10) || (((c == 32) || (c == 9)) && fresh)) cs
+freshly fresh (c ∷ cs) = freshly ((c == 10) || (is_gap c && fresh)) cs
 
 -- the number of the line after this one
 abbrev pub next_line : Effect → ℕ → ℕ
@@ -99,6 +100,10 @@ pub record AreTokens (name bytes : List ℕ) (tokens : Tokens) : Type 0 where
   pub list : tokens.list ≡ tokens_of start parts
   pub names : tokens.names ≡ name ∷ names_of parts
   pub few : length tokens.list ≤ 2 ^ 22
+
+-- the file of each token is a place among the names
+abbrev pub ArePlaced : Tokens → Type 0
+ArePlaced tokens = All (λ t. t.file < length tokens.names) tokens.list
 
 -- no part stands at the front of the bytes
 abbrev pub NoneStands : Bool → List ℕ → Type 0

@@ -1,10 +1,11 @@
 -- The kept tokens: those of a file without the words and attributes of its compiler that declare nothing.
-use Rattle.std.specs.Prelude.{ℕ, ◌+◌, ◌-◌, Bool, true, false, cond, not, ◌==◌, ◌&&◌, ◌||◌, List, [], ◌∷◌, ◌++◌, take, drop, codes, Option, Some, None}
+use Rattle.std.specs.Prelude.{ℕ, ◌≡◌, ◌+◌, ◌-◌, Bool, true, false, cond, not, ◌==◌, ◌&&◌, ◌||◌, List, [], ◌∷◌, ◌++◌, take, drop, codes, Option, Some, None}
 use Rattle.std.specs.List.{list_any}
 use Rattle.std.specs.Str.{bytes_eq}
 use Rattle.po_base.specs.declared.token.Token.{Token}
 use Rattle.po_lex.specs.Brackets.{State, outset, step, mark, is_word, closer, is_closer}
 use Rattle.po_lex.specs.declared.keeping.Mood.{Mood}
+use Rattle.po_lex.specs.declared.keeping.Standard.{Standard}
 
 -- words that are dropped
 abbrev pub dropped : List (List ℕ)
@@ -36,6 +37,14 @@ is_among words text = list_any (λ w. bytes_eq w text) words
 -- the token is one of these words
 abbrev pub is_one_of : List (List ℕ) → Token → Bool
 is_one_of words t = is_word t.kind && is_among words t.text
+
+-- no word that begins with `_`, as all words do of which something is dropped or read as another
+abbrev pub begins_low : List ℕ → Bool
+begins_low [] = false
+begins_low (c ∷ cs) = c == 95
+
+abbrev pub is_plain : Token → Bool
+is_plain t = not (is_word t.kind && begins_low t.text)
 
 abbrev pub is_empty : {X : Type 0} → List X → Bool
 is_empty [] = true
@@ -89,6 +98,11 @@ size m t us =
     cond (is_one_of attribute t) (doubled us + 1)
     (cond (is_one_of assembler t && m.after && (m.depth == 0)) (parens us + 1) 1)
 
+-- the words as which others are read
+pub record AreStandard (words : Standard) : Type 0 where
+  pub inline_of : words.inline ≡ codes "inline"
+  pub constant_of : words.constant ≡ codes "const"
+
 -- a token with the word as which it is read
 abbrev pub renamed : Token → Token
 renamed t =
@@ -112,3 +126,10 @@ pub data Keeps : Mood → List Token → List Token → Type 0 where
   more : (m : Mood) (t : Token) (us kept : List Token) →
       Keeps (advance m (take (size m t us) (t ∷ us))) (drop (size m t us) (t ∷ us)) kept →
       Keeps m (t ∷ us) (kept_of (size m t us) t us ++ kept)
+
+-- The tokens `kept` are some of these, in their order, each as it is or with the word as which it is read.
+pub data AreSelected : List Token → List Token → Type 0 where
+  none_left : AreSelected [] []
+  left_out : (t : Token) (ts kept : List Token) → AreSelected ts kept → AreSelected (t ∷ ts) kept
+  taken : (t : Token) (ts kept : List Token) → AreSelected ts kept → AreSelected (t ∷ ts) (t ∷ kept)
+  reread : (t : Token) (ts kept : List Token) → AreSelected ts kept → AreSelected (t ∷ ts) (renamed t ∷ kept)

@@ -3,7 +3,7 @@ use Rattle.std.specs.Prelude.{ℕ, Bool, cond, ◌==◌, ◌&&◌, ◌||◌, Lis
 use Rattle.std.specs.List.{starts_with}
 use Rattle.po_base.specs.declared.token.TokenKind.{TokenKind}
 use Rattle.po_base.specs.declared.token.TokenKind.TheVariants as k
-use Rattle.po_lex.specs.Bytes.{is_space, is_digit, begins_word, are}
+use Rattle.po_lex.specs.Bytes.{is_space, is_digit, begins_word, are, newlines}
 use Rattle.po_lex.specs.declared.row.Row.{Row}
 use Rattle.po_lex.specs.declared.row.Row.TheVariants as r
 use Rattle.po_lex.specs.declared.lead.Lead.{Lead}
@@ -77,3 +77,12 @@ kind_of l.Char = Some k.Char
 kind_of l.Str = Some k.Str
 kind_of l.Sign = Some k.Punct
 kind_of _ = None
+
+-- how many lines end in a part with these bytes: none in a word, a number, a literal or a directive
+abbrev pub lines : Lead → List ℕ → ℕ
+lines l.Word text = 0
+lines l.Number text = 0
+lines l.Char text = 0
+lines l.Str text = 0
+lines l.Directive text = 0
+lines _ text = newlines text

@@ -1,11 +1,18 @@
 ghost use Rattle.std.specs.Prelude.{◌≡◌};
-ghost use Rattle.po_lex.specs.Bytes.{is_space, is_digit, is_letter, begins_word, is_exponent, are};
+ghost use Rattle.po_lex.specs.Bytes.{is_space, is_gap, is_digit, is_letter, begins_word, is_exponent, are};
 
 /// Whether a byte is a blank within a line: space, tab, vertical tab, form feed or carriage return.
 pub(crate) fn is_space(byte: u8) -> bool
     ensures { result ≡ is_space byte }
 {
     byte == b' ' || byte == b'\t' || byte == 11 || byte == 12 || byte == b'\r'
+}
+
+/// Whether a byte is a space or a tab.
+pub(crate) fn is_gap(byte: u8) -> bool
+    ensures { result ≡ is_gap byte }
+{
+    byte == b' ' || byte == b'\t'
 }
 
 /// Whether a byte is a decimal digit.

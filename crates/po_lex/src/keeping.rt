@@ -3,7 +3,8 @@ ghost use Rattle.std.specs.List.{list_any};
 ghost use Rattle.po_base.specs.declared.token.Token.{Token as Placed};
 ghost use Rattle.po_lex.specs.Brackets.{closer, is_closer, mark};
 ghost use Rattle.po_lex.specs.Closings.{parens_from_each};
-ghost use Rattle.po_lex.specs.Keeping.{advance, assembler, at_start, attribute, consts, deeper, doubled, dropped, inlines, is_among, is_one_of, kept_of, may_end, renamed, size, stays, telling, Keeps};
+ghost use Rattle.po_lex.specs.Keeping.{advance, assembler, at_start, attribute, consts, deeper, doubled, dropped, inlines, is_among, is_one_of, kept_of, may_end, renamed, size, stays, telling, begins_low, is_plain, AreStandard, Keeps};
+ghost use Rattle.po_lex.specs.Division.{ArePlaced};
 
 use crate::closing::parens_from_each;
 use crate::walk::{closer, is_closer, is_word, mark};
@@ -59,6 +60,20 @@ fn is_one_of(words: &[&[u8]], token: &Token) -> bool
     ensures { result ≡ is_one_of (map (λ w. w.now) words.now) token.now }
 {
     is_word(token.kind) && is_among(words, token.text.bytes())
+}
+
+/// Whether a token is no word that begins with `_`: then it is kept as it is. Constant time.
+fn is_plain(token: &Token) -> bool
+    ensures { result ≡ is_plain token.now }
+{
+    !(is_word(token.kind) && begins_low(token.text.bytes()))
+}
+
+/// Whether a text begins with `_`.
+fn begins_low(text: &[u8]) -> bool
+    ensures { result ≡ begins_low text.now }
+{
+    text.len() > 0 && text[0] == b'_'
 }
 
 /// How many tokens the parentheses have that stand first from a place on, as `widths` tells; 0 behind the last.
@@ -135,6 +150,9 @@ impl Mood {
         ensures some { 0 < result }
         ensures few { result ≤ 2 ^ 32 }
     {
+        if is_plain(first) {
+            return 1;
+        }
         if is_one_of(&ATTRIBUTE, first) {
             return doubled(widths) + 1;
         }
@@ -165,30 +183,50 @@ fn same(token: &Token) -> Result<Token, Memory>
     })
 }
 
-/// The token with this text.
-fn with_text(alloc: Global, token: &Token, text: &[u8]) -> Result<Token, Memory>
+/// The token with this text, which isn't copied.
+fn with_text(token: &Token, text: &Text) -> Result<Token, Memory>
     ensures { IfOk result (λ other. other ≡ record token.now { text = text.now }) }
 {
     Ok(Token {
         kind: token.kind,
-        text: Text::new(alloc, text)?,
+        text: text.share()?,
         file: token.file,
         line: token.line,
         own_line: token.own_line,
     })
 }
 
-/// The token with the word as which it is read.
-fn renamed(alloc: Global, token: &Token) -> Result<Token, Memory>
-    ensures { IfOk result (λ other. other ≡ renamed token.now) }
-{
-    if is_one_of(&INLINES, token) {
-        return with_text(alloc, token, b"inline");
+/// The words as which others are read, once for all tokens of a file.
+#[derive(Debug, Drop)]
+struct Standard {
+    inline: Text,
+    constant: Text,
+}
+
+impl Standard {
+    /// `inline` and `const`.
+    fn new(alloc: Global) -> Result<Standard, Memory>
+        ensures { IfOk result (λ standard. AreStandard standard) }
+    {
+        Ok(Standard {
+            inline: Text::new(alloc, b"inline")?,
+            constant: Text::new(alloc, b"const")?,
+        })
     }
-    if is_one_of(&CONSTS, token) {
-        return with_text(alloc, token, b"const");
+
+    /// The token with the word as which it is read.
+    fn renamed(&self, token: &Token) -> Result<Token, Memory>
+        requires { AreStandard self.now }
+        ensures { IfOk result (λ other. other ≡ renamed token.now) }
+    {
+        if is_one_of(&INLINES, token) {
+            return with_text(token, &self.inline);
+        }
+        if is_one_of(&CONSTS, token) {
+            return with_text(token, &self.constant);
+        }
+        same(token)
     }
-    same(token)
 }
 
 /// Whether one of the tokens tells what an attribute may not be dropped for. Time linear in their number.
@@ -220,21 +258,36 @@ fn stays(first: &Token, held: &[Token]) -> bool
     is_one_of(&ATTRIBUTE, first) && tells(held)
 }
 
+/// Puts what is kept of a token that is judged alone at the end.
+fn put_one(list: &mut List<Token>, standard: &Standard, token: &Token) -> Result<(), Memory>
+    requires { AreStandard standard.now }
+    ensures { OnOk result ((others : Items Placed) → list.new ≡ list.old ++ kept_of 1 token.now others) }
+{
+    if is_plain(token) {
+        return list.push(same(token)?);
+    }
+    if is_one_of(&DROPPED, token) {
+        return Ok(());
+    }
+    list.push(standard.renamed(token)?)
+}
+
 /// Puts what is kept of `first` and of the tokens `held` behind it, which are judged at once, at the end. Time linear in
 /// their number.
 fn put_kept(
-    alloc: Global,
     list: &mut List<Token>,
+    standard: &Standard,
     first: &Token,
     held: &[Token],
 ) -> Result<(), Memory>
+    requires { AreStandard standard.now }
     ensures { OnOk result ((others : Items Placed) → list.new ≡ list.old ++ kept_of (length held.now + 1) first.now (held.now ++ others)) }
 {
+    if held.len() == 0 {
+        return put_one(list, standard, first);
+    }
     if is_one_of(&DROPPED, first) {
         return Ok(());
-    }
-    if held.is_empty() {
-        return list.push(renamed(alloc, first)?);
     }
     if !stays(first, held) {
         return Ok(());
@@ -258,14 +311,17 @@ fn same_names(alloc: Global, names: &List<Text>) -> Result<List<Text>, Memory>
 /// The kept tokens of a file, and its names: `__extension__`, `__restrict` and `__restrict__` are dropped, and so are
 /// `__attribute__` with its double parentheses, unless they hold a word that changes a layout or a type, and outside
 /// brackets `__asm__` with its parentheses behind a word, a `)` or a `]`. `__inline` and `__inline__` are read as
-/// `inline`, `__const` as `const`. Texts are handed on and not copied. Time and memory are linear in the tokens, whether
+/// `inline`, `__const` as `const`. No token is made that wasn't there, and texts are handed on and not copied. Time and memory are linear in the tokens, whether
 /// brackets match or not.
 pub fn kept(alloc: Global, tokens: &Tokens) -> Result<Tokens, Memory>
     requires { length tokens.now.list < 2 ^ 31 }
     ensures kept { IfOk result (λ kept. Keeps at_start tokens.now.list kept.list) }
     ensures names { IfOk result (λ kept. kept.names ≡ tokens.now.names) }
+    ensures few { IfOk result (λ kept. length kept.list ≤ length tokens.now.list) }
+    ensures placed { IfOk result (λ kept. ArePlaced tokens.now → ArePlaced kept) }
 {
     let read = tokens.list.as_slice();
+    let standard = Standard::new(alloc)?;
     let mut list = List::new(alloc);
     let mut mood = Mood {
         depth: 0,
@@ -277,7 +333,7 @@ pub fn kept(alloc: Global, tokens: &Tokens) -> Result<Tokens, Memory>
     while at < read.len() {
         let first = &read[at];
         let end = at + mood.size(first, &widths[at + 1..]);
-        put_kept(alloc, &mut list, first, &read[at + 1..end])?;
+        put_kept(&mut list, &standard, first, &read[at + 1..end])?;
         mood = mood.advance(&read[at..end]);
         at = end;
     }

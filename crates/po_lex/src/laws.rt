@@ -1,8 +1,8 @@
 ghost use Rattle.std.specs.Prelude.{ℕ, ◌≡◌, ◌≤◌, ◌++◌, Bool, true, [], map, length, List as Items};
 ghost use Rattle.po_base.specs.declared.token.Token.{Token as Placed};
 ghost use Rattle.po_base.specs.declared.token.Tokens.{Tokens as Lists};
-ghost use Rattle.po_lex.specs.Division.{Part, Divides, AreTokens, Fails, HasTooMany, Stands, start};
-ghost use Rattle.po_lex.specs.Keeping.{Keeps};
+ghost use Rattle.po_lex.specs.Division.{Part, Divides, AreTokens, ArePlaced, Fails, HasTooMany, Stands, start};
+ghost use Rattle.po_lex.specs.Keeping.{Keeps, AreSelected};
 ghost use Rattle.po_lex.specs.Pieces.{ArePieces, IsMisshapen};
 ghost use Rattle.po_lex.specs.Laws.{StandInOrder, Cover};
 ghost use Rattle.po_lex.specs.declared.keeping.Mood.{Mood as Before};
@@ -39,6 +39,16 @@ pub fn one_failure()
 /// The texts of a file's tokens stand in its bytes, one behind the other.
 pub fn texts_stand_in_order()
     ensures { (name bytes : Items ℕ) (tokens : Lists) → AreTokens name bytes tokens → StandInOrder (map (λ t. t.text) tokens.list) bytes }
+{}
+
+/// The file of each token of a file is a place among the file's names.
+pub fn tokens_are_placed()
+    ensures { (name bytes : Items ℕ) (tokens : Lists) → AreTokens name bytes tokens → ArePlaced tokens }
+{}
+
+/// The kept tokens are some of the tokens, in their order, each as it is or with the word as which it is read.
+pub fn kept_are_selected()
+    ensures { (before : Before) (tokens kept : Items Placed) → Keeps before tokens kept → AreSelected tokens kept }
 {}
 
 /// Of the tokens of a file one list is kept at most.

@@ -1,7 +1,8 @@
 ghost use Rattle.std.specs.Prelude.{ℕ, ◌≡◌, ◌+◌, ◌-◌, ◌<◌, ◌≤◌, ◌^◌, ◌++◌, ◌∷◌, [], ◌≢◌, length, take, drop, IfOk, IfErr, OnOk, List as Items};
 ghost use Rattle.po_base.specs.declared.token.Token.{Token as Placed};
+ghost use Rattle.po_lex.specs.Bytes.{newlines};
 ghost use Rattle.po_lex.specs.Leads.{kind_of};
-ghost use Rattle.po_lex.specs.Division.{Part, AreTokens, Divides, Fails, HasTooMany, as_token, is_directive, moved, named_by, next_line, start, tokens_of};
+ghost use Rattle.po_lex.specs.Division.{Part, AreTokens, ArePlaced, Divides, Fails, HasTooMany, as_token, is_directive, moved, named_by, next_line, start, tokens_of};
 ghost use Rattle.po_lex.specs.Lexing.{IsKept, IsRead, HasCause, failure};
 ghost use Rattle.po_lex.specs.declared.lexing.LexFail.TheVariants.{Memory as NoMemory};
 
@@ -56,22 +57,42 @@ fn put(list: &mut List<Token>, excess: bool, token: Token) -> Result<bool, Memor
     Ok(false)
 }
 
-/// Puts the token of a part, where it is one, at the end as `put` does.
+/// So many bytes of a file from a place on.
+fn text_at(file: &Text, at: usize, count: usize) -> &[u8]
+    requires { at + count ≤ length file.now }
+    ensures { result.now ≡ take count (drop at file.now) }
+{
+    &file.bytes()[at..at + count]
+}
+
+/// So many bytes of a file from a place on, as a text that shares them. Constant time.
+fn shared_text_at(file: &Text, at: usize, count: usize) -> Result<Text, Memory>
+    requires { at + count ≤ length file.now }
+    ensures { IfOk result (λ text. text ≡ take count (drop at file.now)) }
+{
+    let _bytes = file.bytes();
+    file.part(at, at + count)
+}
+
+/// Puts the token of a part, where it is one, at the end as `put` does. The part has `count` bytes of the file from `at`
+/// on, which the token shares. Constant time on the average.
 fn put_part(
-    alloc: Global,
     list: &mut List<Token>,
     excess: bool,
     kind: Option<TokenKind>,
     place: &Place,
-    text: &[u8],
+    file: &Text,
+    at: usize,
+    count: usize,
 ) -> Result<bool, Memory>
-    ensures { IfOk result (λ now. (tokens : Items Placed) → IsKept excess list.old tokens → IsKept now list.new (tokens ++ as_token kind place.now text.now)) }
+    requires { at + count ≤ length file.now }
+    ensures { IfOk result (λ now. (tokens : Items Placed) → IsKept excess list.old tokens → IsKept now list.new (tokens ++ as_token kind place.now (take count (drop at file.now)))) }
 {
     match kind {
         Some(kind) => {
             let token = Token {
                 kind,
-                text: Text::new(alloc, text)?,
+                text: shared_text_at(file, at, count)?,
                 file: place.named,
                 line: place.next.saturating_sub(1),
                 own_line: place.own,
@@ -123,24 +144,28 @@ impl Lexer {
         })
     }
 
-    /// Reads a part with these bytes. Time and memory linear in them.
-    fn read(&mut self, alloc: Global, text: &[u8], part: Standing) -> Result<(), Memory>
-        requires short { length text.now ≤ 2 ^ 24 }
+    /// Reads a part that stands in the file from `at` on. Constant time, but for the blanks at its end.
+    fn read(&mut self, file: &Text, at: usize, part: Standing) -> Result<(), Memory>
+        requires within { at + part.end ≤ length file.now }
+        requires short { part.end ≤ 2 ^ 24 }
+        requires lines { part.lines ≡ newlines (take part.end (drop at file.now)) }
         requires own { self.old.place.own ≤ 2 ^ 25 }
         requires named { self.old.place.named ≤ 2 ^ 25 }
         requires next { next_line part.effect self.old.place.next ≤ 2 ^ 31 + 2 ^ 25 }
-        ensures read { OnOk result ((name : Items ℕ) (front : Items Part) → IsRead name front self.old → IsRead name (front ++ record { lead = part.lead; text = text.now; effect = part.effect } ∷ []) self.new) }
-        ensures place { OnOk result (self.new.place ≡ moved self.old.place text.now part.effect) }
+        ensures read { OnOk result ((name : Items ℕ) (front : Items Part) → IsRead name front self.old → IsRead name (front ++ record { lead = part.lead; text = take part.end (drop at file.now); effect = part.effect } ∷ []) self.new) }
+        ensures place { OnOk result (self.new.place ≡ moved self.old.place (take part.end (drop at file.now)) part.effect) }
     {
         self.excess = put_part(
-            alloc,
             &mut self.list,
             self.excess,
             part.lead.kind(),
             &self.place,
-            text,
+            file,
+            at,
+            part.end,
         )?;
-        self.place = self.place.moved(text, &part.effect);
+        let text = text_at(file, at, part.end);
+        self.place = self.place.moved(text, part.lines, &part.effect);
         put_name(&mut self.names, part.effect)
     }
 
@@ -173,8 +198,8 @@ fn no_part(place: &Place, bytes: &[u8]) -> LexFail
 
 /// The tokens of a file of at most 2^24 bytes that a C preprocessor wrote, in the one division of its bytes into
 /// longest parts. The first name is the file's own, and each line marker that gives a name adds one. Time is linear in
-/// the bytes. Memory is about 110 bytes for a byte of the file where each byte is a token, and about 20 for real text; each
-/// name is kept once for a marker that gives it, and a token has its place alone.
+/// the bytes. Memory is one copy of the bytes, which the tokens share, and for each token its place in the list; each name is
+/// kept once for a marker that gives it.
 ///
 /// # Errors
 ///
@@ -184,8 +209,10 @@ fn no_part(place: &Place, bytes: &[u8]) -> LexFail
 pub fn tokens(alloc: Global, name: &Text, bytes: &[u8]) -> Result<Tokens, LexFail>
     requires { length bytes.now ≤ 2 ^ 24 }
     ensures tokens { IfOk result (λ tokens. AreTokens name.now bytes.now tokens) }
+    ensures placed { IfOk result (λ tokens. ArePlaced tokens) }
     ensures fail { IfErr result (λ fail. HasCause bytes.now fail) }
 {
+    let file = Text::new(alloc, bytes)?;
     let mut lexer = Lexer::new(alloc, name)?;
     let mut at = 0;
     while at < bytes.len() {
@@ -193,7 +220,7 @@ pub fn tokens(alloc: Global, name: &Text, bytes: &[u8]) -> Result<Tokens, LexFai
         match part_of(alloc, left, lexer.place.fresh)? {
             Some(part) => {
                 let end = part.end;
-                lexer.read(alloc, &left[..end], part)?;
+                lexer.read(&file, at, part)?;
                 at += end;
             }
             None => return Err(no_part(&lexer.place, left)),

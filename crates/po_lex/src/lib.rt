@@ -24,9 +24,9 @@ mod walk;
 pub use effect::Effect;
 pub use keeping::{Mood, kept};
 pub use laws::{
-    longest_part_stands, one_division, one_failure, one_kept_list, one_piece_list,
-    one_shape_failure, one_token_list, pieces_cover, pieces_or_failure, texts_stand_in_order,
-    tokens_or_failure,
+    kept_are_selected, longest_part_stands, one_division, one_failure, one_kept_list,
+    one_piece_list, one_shape_failure, one_token_list, pieces_cover, pieces_or_failure,
+    texts_stand_in_order, tokens_are_placed, tokens_or_failure,
 };
 pub use lead::Lead;
 pub use lexing::{LexFail, tokens};

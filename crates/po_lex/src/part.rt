@@ -1,5 +1,6 @@
-ghost use Rattle.std.specs.Prelude.{ℕ, ◌≡◌, ◌+◌, ◌-◌, ◌<◌, ◌≤◌, ◌++◌, length, take, drop, slice_index, IfOk, IfSome, IfNone, IsTrue, false, List as Bytes, option_to_list};
-ghost use Rattle.po_lex.specs.Leads.{lead_of, opening, row_of, closing, kind_of};
+ghost use Rattle.std.specs.Prelude.{ℕ, ◌≡◌, ◌+◌, ◌-◌, ◌<◌, ◌≤◌, ◌++◌, ◌^◌, length, take, drop, slice_index, IfOk, IfSome, IfNone, IsTrue, false, List as Bytes, option_to_list};
+ghost use Rattle.po_lex.specs.Bytes.{newlines};
+ghost use Rattle.po_lex.specs.Leads.{lead_of, opening, row_of, closing, kind_of, lines};
 ghost use Rattle.po_lex.specs.Rows.{skip};
 ghost use Rattle.po_lex.specs.Division.{IsSaid, Stands, NoneStands};
 ghost use Rattle.po_lex.specs.declared.effect.Effect.{Effect as Said};
@@ -12,12 +13,28 @@ use crate::sign::sign_length;
 use po_base::{Memory, TokenKind};
 use std::alloc::Global;
 
-/// A part that stands at a place of a file: what it is, where it ends, and what it says.
+/// A part that stands at a place of a file: what it is, where it ends, how many lines end in it, and what it says.
 #[derive(Debug, Drop)]
 pub(crate) struct Standing {
     pub lead: Lead,
     pub end: usize,
+    pub lines: u32,
     pub effect: Effect,
+}
+
+/// How many lines end in these bytes. Time linear in them.
+fn newlines(text: &[u8]) -> u32
+    requires { length text.now < 2 ^ 32 }
+    ensures value { result ≡ newlines text.now }
+    ensures few { result ≤ length text.now }
+{
+    let mut count = 0;
+    for byte in text {
+        if *byte == b'\n' {
+            count += 1;
+        }
+    }
+    count
 }
 
 impl Lead {
@@ -182,10 +199,27 @@ fn said(alloc: Global, lead: Lead, fresh: bool, text: &[u8]) -> Result<Option<Ef
     }
 }
 
+impl Lead {
+    /// How many lines end in a part with these bytes. Words, numbers, literals and directives aren't read again for it.
+    fn lines(self, text: &[u8]) -> u32
+        requires { length text.now < 2 ^ 32 }
+        ensures { result ≡ lines self text.now }
+    {
+        match self {
+            Lead::Word | Lead::Number | Lead::Char | Lead::Str | Lead::Directive => 0,
+            Lead::Blank | Lead::Joined | Lead::Comment | Lead::Remark | Lead::Sign => newlines(
+                text,
+            ),
+        }
+    }
+}
+
 /// The part that begins the bytes; None where no part stands there. Time linear in its bytes.
 pub(crate) fn part_of(alloc: Global, bytes: &[u8], fresh: bool) -> Result<Option<Standing>, Memory>
+    requires { length bytes.now < 2 ^ 32 }
     ensures found { IfOk result (λ found. IfSome found (λ p. Stands fresh bytes.now (record { lead = p.lead; text = take p.end bytes.now; effect = p.effect }) (drop p.end bytes.now))) }
     ensures ends { IfOk result (λ found. IfSome found (λ p. (0 < p.end) × (p.end ≤ length bytes.now))) }
+    ensures lines { IfOk result (λ found. IfSome found (λ p. p.lines ≡ newlines (take p.end bytes.now))) }
     ensures none { IfOk result (λ found. IfNone found (NoneStands fresh bytes.now)) }
 {
     let lead = lead_of(bytes);
@@ -193,8 +227,14 @@ pub(crate) fn part_of(alloc: Global, bytes: &[u8], fresh: bool) -> Result<Option
         Some(end) => end,
         None => return Ok(None),
     };
-    match said(alloc, lead, fresh, &bytes[..end])? {
-        Some(effect) => Ok(Some(Standing { lead, end, effect })),
+    let text = &bytes[..end];
+    match said(alloc, lead, fresh, text)? {
+        Some(effect) => Ok(Some(Standing {
+            lead,
+            end,
+            lines: lead.lines(text),
+            effect,
+        })),
         None => Ok(None),
     }
 }

@@ -2,6 +2,7 @@ ghost use Rattle.std.specs.Prelude.{◌≡◌, ◌+◌, ◌<◌, ◌≤◌, ◌^
 ghost use Rattle.po_lex.specs.Bytes.{newlines};
 ghost use Rattle.po_lex.specs.Division.{freshly, moved, named_by, next_line};
 
+use crate::bytes::is_gap;
 use crate::effect::Effect;
 
 /// Where a reader stands in a file, and what the line markers before it said.
@@ -17,30 +18,23 @@ pub struct Place {
     pub named: u32,
 }
 
-/// How many lines end in these bytes. Time linear in them.
-fn newlines(text: &[u8]) -> u32
-    requires { length text.now < 2 ^ 32 }
-    ensures value { result ≡ newlines text.now }
-    ensures few { result ≤ length text.now }
-{
-    let mut count = 0;
-    for byte in text {
-        if *byte == b'\n' {
-            count += 1;
-        }
-    }
-    count
-}
-
-/// Whether only spaces and tabs stand on the line up to the end of these bytes. Time linear in them.
+/// Whether only spaces and tabs stand on the line up to the end of these bytes. Goes back from their end to the byte that
+/// decides it.
 fn freshly(fresh: bool, text: &[u8]) -> bool
     ensures { result ≡ freshly fresh text.now }
 {
-    let mut now = fresh;
-    for byte in text {
-        now = *byte == b'\n' || (*byte == b' ' || *byte == b'\t') && now;
+    let mut end = text.len();
+    while end > 0 {
+        let byte = text[end - 1];
+        if byte == b'\n' {
+            return true;
+        }
+        if !is_gap(byte) {
+            return false;
+        }
+        end -= 1;
     }
-    now
+    fresh
 }
 
 /// The number of the line after this one, where it was `next` before.
@@ -67,15 +61,16 @@ fn names_given(effect: &Effect) -> u32
 }
 
 impl Place {
-    /// The place behind a part with these bytes, which says this. Time linear in the bytes.
-    pub(crate) fn moved(&self, text: &[u8], effect: &Effect) -> Place
+    /// The place behind a part with these bytes, in which so many lines end, and which says this. Constant time, but for the
+    /// spaces and tabs at its end.
+    pub(crate) fn moved(&self, text: &[u8], lines: u32, effect: &Effect) -> Place
         requires short { length text.now ≤ 2 ^ 24 }
+        requires lines { lines ≡ newlines text.now }
         requires own { self.now.own ≤ 2 ^ 25 }
         requires named { self.now.named ≤ 2 ^ 25 }
         requires next { next_line effect.now self.now.next ≤ 2 ^ 31 + 2 ^ 25 }
         ensures { result ≡ moved self.now text.now effect.now }
     {
-        let lines = newlines(text);
         Place {
             fresh: freshly(self.fresh, text),
             next: next_line(effect, self.next) + lines,

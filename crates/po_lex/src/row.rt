@@ -63,8 +63,29 @@ fn behind(row: Row, before: u8, byte: u8) -> u8
     }
 }
 
-/// Where the longest row from `at` on ends. Time linear in its bytes.
+/// Where the longest row from `at` on ends. Time linear in its bytes. Each kind of row has its own loop once it is compiled.
 pub(crate) fn row_end(bytes: &[u8], at: usize, row: Row) -> usize
+    requires { at ≤ length bytes.now }
+    ensures after { at ≤ result }
+    ensures within { result ≤ length bytes.now }
+    ensures front { take (result - at) (drop at bytes.now) ≡ front row (0) (drop at bytes.now) }
+    ensures rest { drop result bytes.now ≡ skip row (0) (drop at bytes.now) }
+{
+    match row {
+        Row::Nothing => end_of(bytes, at, Row::Nothing),
+        Row::Word => end_of(bytes, at, Row::Word),
+        Row::Number => end_of(bytes, at, Row::Number),
+        Row::Line => end_of(bytes, at, Row::Line),
+        Row::Comment => end_of(bytes, at, Row::Comment),
+        Row::Literal(quote) => end_of(bytes, at, Row::Literal(quote)),
+        Row::Spaces => end_of(bytes, at, Row::Spaces),
+        Row::Digits => end_of(bytes, at, Row::Digits),
+        Row::Flags => end_of(bytes, at, Row::Flags),
+    }
+}
+
+/// Where the longest row from `at` on ends. Time linear in its bytes.
+fn end_of(bytes: &[u8], at: usize, row: Row) -> usize
     requires { at ≤ length bytes.now }
     ensures after { at ≤ result }
     ensures within { result ≤ length bytes.now }

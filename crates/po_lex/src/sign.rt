@@ -1,4 +1,5 @@
-ghost use Rattle.std.specs.Prelude.{◌≡◌, ◌≤◌, length, map};
+ghost use Rattle.std.specs.Prelude.{ℕ, ◌≡◌, ◌≤◌, ◌∷◌, length, map, IsTrue, nat_eq, List as Bytes};
+ghost use Rattle.std.specs.List.{starts_with};
 ghost use Rattle.po_lex.specs.Leads.{longest, signs};
 
 /// The punctuators of C99 6.4.6, without `#`, `##` and the digraphs.
@@ -9,6 +10,16 @@ const SIGNS: [&[u8]; 46] = [
     b"&=", b"^=", b"|=", b",",
 ];
 
+/// Whether bytes begin with a text. Most often their first bytes tell that they don't.
+fn begins_with(bytes: &[u8], text: &[u8]) -> bool
+    ensures { result ≡ starts_with nat_eq bytes.now text.now }
+{
+    if bytes.len() > 0 && text.len() > 0 && bytes[0] != text[0] {
+        return false;
+    }
+    bytes.starts_with(text)
+}
+
 /// The length of the longest of these texts with which the bytes begin, 0 where they begin with none. Time linear
 /// in the texts.
 fn longest(texts: &[&[u8]], bytes: &[u8]) -> usize
@@ -17,17 +28,38 @@ fn longest(texts: &[&[u8]], bytes: &[u8]) -> usize
 {
     let mut best = 0;
     for text in texts {
-        if bytes.starts_with(text) && best < text.len() {
+        if begins_with(bytes, text) && best < text.len() {
             best = text.len();
         }
     }
     best
 }
 
-/// The length of the longest punctuator with which the bytes begin, 0 where they begin with none.
+/// Whether a byte is a punctuator with which no longer one begins.
+fn is_lone(byte: u8) -> bool
+    ensures { IsTrue result → (bytes : Bytes ℕ) → longest signs (byte ∷ bytes) ≡ 1 }
+{
+    match byte {
+        b'(' => true,
+        b')' => true,
+        b',' => true,
+        b';' => true,
+        b'[' => true,
+        b']' => true,
+        b'{' => true,
+        b'}' => true,
+        _ => false,
+    }
+}
+
+/// The length of the longest punctuator with which the bytes begin, 0 where they begin with none. Those of one byte with which
+/// no longer one begins are told by that byte.
 pub(crate) fn sign_length(bytes: &[u8]) -> usize
     ensures value { result ≡ longest signs bytes.now }
     ensures within { result ≤ length bytes.now }
 {
+    if bytes.len() > 0 && is_lone(bytes[0]) {
+        return 1;
+    }
     longest(&SIGNS, bytes)
 }

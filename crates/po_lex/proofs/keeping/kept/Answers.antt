@@ -1,10 +1,12 @@
 use Rattle.std.proofs.Common.{◌≡◌, ℕ, ◌+◌, ◌-◌, ◌<◌, ◌≤◌, List, [], ◌∷◌, ◌++◌, length, take, drop, arith, sym, ap, ◌∙◌, subst, append-nil}
+use Rattle.std.specs.List.{All}
 use Rattle.std.proofs.lemmas.List.{drop_more, drop_all, length-take}
 use Rattle.po_base.specs.declared.token.Token.{Token}
 use Rattle.po_lex.specs.Keeping.{Keeps, nothing, advance, size, kept_of, at_start}
 use Rattle.po_lex.specs.declared.keeping.Mood.{Mood}
 use Rattle.po_lex.proofs.Remains.{keeps_on, kept_whole}
 use Rattle.po_lex.proofs.Widths.{judged_within}
+use Rattle.po_lex.proofs.Selected.{selected, fewer, still_placed}
 use Rattle.po_lex.proofs.keeping.kept.Goals as goal
 
 pub slice_bounds-put_kept-end : goal.slice_bounds-put_kept-end
@@ -47,3 +49,12 @@ returns-clause-kept c =
     let over : drop c.loop-at.at read ≡ [] = drop_all c.loop-at.at read c.loop-at-test.false in
     let done : Keeps at_start read (c.loop-at.list ++ []) = c.loop-at.invariant.keeps [] (subst (λ v. Keeps c.loop-at.mood v []) (sym over) (nothing c.loop-at.mood)) in
     subst (λ v. Keeps at_start v c.loop-at.list) c.as_slice-read.ensures (subst (Keeps at_start read) (append-nil c.loop-at.list) done)
+
+pub returns-clause-few : goal.returns-clause-few
+returns-clause-few c = fewer c.args.tokens.now.list c.loop-at.list (selected at_start c.args.tokens.now.list c.loop-at.list (returns-clause-kept c))
+
+pub returns-clause-placed : goal.returns-clause-placed
+returns-clause-placed c h =
+    let n : ℕ = length c.args.tokens.now.names in
+    subst (λ v. All (λ t. t.file < length v) c.loop-at.list) (sym c.in_ok-names.ensures)
+    (still_placed n c.args.tokens.now.list c.loop-at.list (selected at_start c.args.tokens.now.list c.loop-at.list (returns-clause-kept c)) h)

@@ -1,8 +1,12 @@
+use Rattle.std.proofs.Common.{◌∙◌, ap, take, drop}
+use Rattle.po_lex.specs.Division.{Part, moved}
 use Rattle.po_lex.proofs.Fronts.{read_more, on_ok-map}
 use Rattle.po_lex.proofs.lexing.Lexer.read.Goals as goal
 
 pub returns-clause-read : goal.returns-clause-read
 returns-clause-read c =
+    let x : Part = record { lead = c.args.part.lead; text = take c.args.part.end (drop c.args.at c.args.file.now); effect = c.args.part.effect } in
+    let place = c.moved-self.ensures ∙ ap (λ v. moved c.args.self.now.place v c.args.part.effect) c.text_at-text.ensures in
     on_ok-map c.put_name.result
-    (λ names. λ name front h. read_more name front c.args.self.now _ _ c.moved-self.ensures names (rw c.kind.ensures at c.in_ok-self.ensures) h)
+    (λ names. λ name front h. read_more name front c.args.self.now _ x place names (rw c.kind.ensures at c.in_ok-self.ensures) h)
     c.put_name.ensures

@@ -1,0 +1,90 @@
+-- Lines are counted once: no line ends in a word, a number, a literal or a directive, and the last bytes of a part decide how its line goes on.
+use Rattle.std.proofs.Common.{◌≡◌, ℕ, ◌+◌, ◌-◌, ◌<◌, ◌≤◌, Bool, true, false, cond, List, [], ◌∷◌, ◌++◌, length, get_or, take, drop, arith, sym, ap, refl, ◌∙◌}
+use Rattle.std.specs.Prelude.{◌==◌, ◌&&◌, ◌||◌}
+use Rattle.std.proofs.lemmas.Bool.{eqb-true}
+use Rattle.std.proofs.lemmas.List.Recursion.{is_count_by}
+use Rattle.std.proofs.lemmas.List.{take_more, take-append-drop}
+use Rattle.po_lex.specs.Bytes.{newlines, is_gap}
+use Rattle.po_lex.specs.Rows.{goes_on, behind, front, skip}
+use Rattle.po_lex.specs.Leads.{beginning, lead_of, opening, row_of, closing, lines}
+use Rattle.po_lex.specs.Division.{freshly}
+use Rattle.po_lex.specs.declared.row.Row.{Row}
+use Rattle.po_lex.specs.declared.row.Row.TheVariants as r
+use Rattle.po_lex.specs.declared.lead.Lead.{Lead}
+use Rattle.po_lex.specs.declared.lead.Lead.TheVariants as l
+
+freshly_last : (fresh : Bool) (xs : List ℕ) (c : ℕ) → freshly fresh (xs ++ (c ∷ [])) ≡ ((c == 10) || (is_gap c && freshly fresh xs))
+freshly_last fresh [] c = refl
+freshly_last fresh (x ∷ xs) c = freshly_last ((x == 10) || (is_gap x && fresh)) xs c
+
+-- the last of these bytes, and those before it
+pub freshly_at : (fresh : Bool) (text : List ℕ) (end : ℕ) → 0 < end → end ≤ length text →
+    freshly fresh (take end text) ≡ ((get_or text (end - 1) 0 == 10) || (is_gap (get_or text (end - 1) 0) && freshly fresh (take (end - 1) text)))
+freshly_at fresh text end some within =
+    let n : (end - 1) + 1 ≡ end = omega arith in
+    let e : take end text ≡ take (end - 1) text ++ (get_or text (end - 1) 0 ∷ []) = ap (λ k. take k text) (sym n) ∙ take_more text (end - 1) 0 (omega arith) in
+    ap (freshly fresh) e ∙ freshly_last fresh (take (end - 1) text) (get_or text (end - 1) 0)
+
+-- how many lines end in the bytes, one byte after the other
+abbrev ends : List ℕ → ℕ
+ends [] = 0
+ends (x ∷ xs) = cond (x == 10) (1 + ends xs) (ends xs)
+
+ends_so : (xs : List ℕ) → ends xs ≡ newlines xs
+ends_so xs = is_count_by ends (λ c. c == 10) refl (λ x xs. refl) xs
+
+ends-append : (xs ys : List ℕ) → ends (xs ++ ys) ≡ ends xs + ends ys
+ends-append [] ys = omega arith
+ends-append (x ∷ xs) ys =
+    let h = ends-append xs ys in
+    elim (x == 10) as (λ b. cond b (1 + ends (xs ++ ys)) (ends (xs ++ ys)) ≡ cond b (1 + ends xs) (ends xs) + ends ys) [
+      | true ↦ omega (arith, h)
+      | false ↦ h
+    ]
+
+ends_other : (c : ℕ) (xs : List ℕ) → (c ≡ 10 → ⊥) → ends (c ∷ xs) ≡ ends xs
+ends_other c xs other =
+    elim (c == 10) as (λ b. (c == 10) ≡ b → cond b (1 + ends xs) (ends xs) ≡ ends xs) [
+      | true ↦ (λ q. absurd (other (eqb-true c 10 q)))
+      | false ↦ (λ q. refl)
+    ] refl
+
+-- a row that no newline goes on holds none
+ends_row : (row : Row) (before : ℕ) (xs : List ℕ) → ((b : ℕ) → goes_on row b 10 ≡ false) → ends xs ≡ ends (skip row before xs)
+ends_row row before [] none = refl
+ends_row row before (c ∷ cs) none =
+    let h = ends_row row (behind row before c) cs none in
+    elim (goes_on row before c) as (λ b. goes_on row before c ≡ b → ends (c ∷ cs) ≡ ends (cond b (skip row (behind row before c) cs) (c ∷ cs))) [
+      | true ↦ (λ q. ends_other c cs (λ e. let bad : true ≡ false = sym q ∙ ap (goes_on row before) e ∙ none before in absurd (cc)) ∙ h)
+      | false ↦ (λ q. refl)
+    ] refl
+
+-- no newline begins what isn't a blank
+no_newline : (c d : ℕ) → (beginning c d ≡ l.Blank → ⊥) → c ≡ 10 → ⊥
+no_newline c d other e = other (rw e refl)
+
+-- a part with one byte before such a row, and with no newline behind it, ends no line
+lineless : (row : Row) (close : List ℕ) (bytes : List ℕ) (end : ℕ) → ((b : ℕ) → goes_on row b 10 ≡ false) → newlines close ≡ 0 →
+    (lead_of bytes ≡ l.Blank → ⊥) → 1 ≤ length bytes → skip row 0 (drop 1 bytes) ≡ close ++ drop end bytes → 0 ≡ newlines (take end bytes)
+lineless row close [] end none closed other some ended = absurd (omega arith)
+lineless row close (c ∷ cs) end none closed other some ended =
+    let all : ends (take end (c ∷ cs)) + ends (drop end (c ∷ cs)) ≡ ends (c ∷ cs) =
+    sym (ends-append (take end (c ∷ cs)) (drop end (c ∷ cs))) ∙ ap ends (take-append-drop end (c ∷ cs)) in
+    let first : ends (c ∷ cs) ≡ ends cs = ends_other c cs (no_newline c (get_or (c ∷ cs) 1 0) other) in
+    let rest : ends cs ≡ ends close + ends (drop end (c ∷ cs)) = ends_row row 0 cs none ∙ ap ends ended ∙ ends-append close (drop end (c ∷ cs)) in
+    let none_closed : ends close ≡ 0 = ends_so close ∙ closed in
+    let none_in : 0 ≡ ends (take end (c ∷ cs)) = omega (arith, all, first, rest, none_closed) in
+    none_in ∙ ends_so (take end (c ∷ cs))
+
+pub lines_so : (lead : Lead) (bytes : List ℕ) (end : ℕ) → lead ≡ lead_of bytes → opening lead bytes ≤ length bytes →
+    skip (row_of lead) 0 (drop (opening lead bytes) bytes) ≡ closing lead ++ drop end bytes → lines lead (take end bytes) ≡ newlines (take end bytes)
+lines_so l.Word bytes end q within ended = lineless r.Word [] bytes end (λ b. refl) refl (λ e. let bad : l.Word ≡ l.Blank = q ∙ e in absurd (cc)) within ended
+lines_so l.Number bytes end q within ended = lineless r.Number [] bytes end (λ b. refl) refl (λ e. let bad : l.Number ≡ l.Blank = q ∙ e in absurd (cc)) within ended
+lines_so l.Char bytes end q within ended = lineless (r.Literal 39) (39 ∷ []) bytes end (λ b. refl) refl (λ e. let bad : l.Char ≡ l.Blank = q ∙ e in absurd (cc)) within ended
+lines_so l.Str bytes end q within ended = lineless (r.Literal 34) (34 ∷ []) bytes end (λ b. refl) refl (λ e. let bad : l.Str ≡ l.Blank = q ∙ e in absurd (cc)) within ended
+lines_so l.Directive bytes end q within ended = lineless r.Line [] bytes end (λ b. refl) refl (λ e. let bad : l.Directive ≡ l.Blank = q ∙ e in absurd (cc)) within ended
+lines_so l.Blank bytes end q within ended = refl
+lines_so l.Joined bytes end q within ended = refl
+lines_so l.Comment bytes end q within ended = refl
+lines_so l.Remark bytes end q within ended = refl
+lines_so l.Sign bytes end q within ended = refl
