@@ -70,7 +70,7 @@ lie_in library p f to n args strings caller callee whole stands there t rest sam
     let fits : FunctionFits library p f = at_place (FunctionFits library p) p.functions caller.function.0 f whole.functions stands.of in
     let called : FunctionFits library p callee = at_place (FunctionFits library p) p.functions n.0 callee whole.functions there in
     let call : CallFits f.graph to args callee = fits_at (slice_get p.functions n.0) (λ (c : Function). (IsUnread c → ⊥) → CallFits f.graph to args c) callee there
-            ((fits.instructions caller.node.0 _ stands.node).callees_fit) (λ unread. no_types callee t rest (called.unread_has_nothing unread).0 same) in
+    ((fits.instructions caller.node.0 _ stands.node).callees_fit) (λ unread. no_types callee t rest (called.unread_has_nothing unread).0 same) in
     call.passes
 
 pub entry_keeps_holds : SubstKeepsHolds → EntryKeepsHolds
