@@ -2,6 +2,7 @@ pub mod Numbers
 pub mod Joins
 pub mod Ends
 pub mod Nearest
+pub mod Searched
 pub mod Covers
 pub mod Bitwise
 pub mod Covered

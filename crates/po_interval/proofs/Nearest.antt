@@ -1,17 +1,13 @@
 -- Rounding goes to the nearest threshold.
-use Rattle.std.proofs.Common.{◌≡◌, Bool, true, false, cond, List, [], ◌∷◌, refl, sym, ap, subst, arith, inl, inr, ◌⊎◌}
-use Rattle.std.specs.Prelude.{not, ◌&&◌, ℤ, ◌≤ℤ◌, ◌<ℤ◌, Option, Some, None, int_le}
+use Rattle.std.proofs.Common.{◌≡◌, Bool, true, false, cond, List, [], ◌∷◌, refl, sym, subst, arith, inl, inr, ◌⊎◌}
+use Rattle.std.specs.Prelude.{ℤ, ◌≤ℤ◌, Option, Some, None, int_le}
 use Rattle.std.specs.Int.{int_min, int_max}
 use Rattle.std.proofs.lemmas.Int.{ints, clamps}
-use Rattle.std.specs.List.{list_any}
-use Rattle.std.specs.Ordering.{int_cmp}
-use Rattle.std.specs.BTreeMap.{is_at}
-use Rattle.std.proofs.lemmas.Bool.{and_parts, and_from, or_cases, not-true}
-use Rattle.std.proofs.lemmas.Bool.Decides.{Decides-int_eq}
-use Rattle.po_arith.proofs.Comparing.{le_tells, le_since}
+use Rattle.std.proofs.lemmas.Bool.{and_parts, and_from}
+use Rattle.po_arith.proofs.Comparing.{le_tells, le_since, le_false}
 use Rattle.po_interval.specs.Sets.{IsAmong}
 use Rattle.po_interval.specs.Within.{is_lower, is_upper}
-use Rattle.po_interval.specs.Rounding.{greater_of, lesser_of, down_to, up_to, greatest_to, least_from, least_fine, greatest_fine, fine_to, fine_from, is_fine, is_threshold, round_down, round_up, low_end, high_end, IsThreshold, IsNearestDown, IsNearestUp, RoundingWidens}
+use Rattle.po_interval.specs.Rounding.{greater_of, lesser_of, down_to, up_to, greatest_to, least_from, least_fine, greatest_fine, fine_to, fine_from, round_down, round_up, low_end, high_end, IsThreshold, IsNearestDown, IsNearestUp, RoundingWidens}
 use Rattle.po_interval.specs.declared.thresholds.Thresholds.{Thresholds}
 
 -- end is the greatest number of a kind that isn't above v, or the least one that isn't below
@@ -88,9 +84,6 @@ least_of_both P Q v (Some x) (Some y) a_is b_is = (which (int_min x y) picked, b
     by w up (inl p) = let less = a_is.2 w p up in omega (arith, ints, clamps)
     by w up (inr q) = let less = b_is.2 w q up in omega (arith, ints, clamps)
 
-le_false : (x y : ℤ) → int_le x y ≡ false → y <ℤ x
-le_false x y test = grind (arith, ints)
-
 one_down : (x v : ℤ) → IsGreatest (λ w. x ≡ w) v (down_to x v)
 one_down x v = by (int_le x v) refl
   where
@@ -139,60 +132,25 @@ least_like : (P Q : ℤ → Type 0) (v : ℤ) (end : Option ℤ) → ((w : ℤ) 
 least_like P Q v None one other is = λ w kind up. is w (other w kind) up
 least_like P Q v (Some x) one other is = (one x is.0, is.1, λ w kind up. is.2 w (other w kind) up)
 
-coarse_only : (th : Thresholds) (w : ℤ) → IsThreshold th true w → IsAmong w th.coarse
+coarse_only : (th : Thresholds) (w : ℤ) → IsThreshold th true w → IsAmong w th.coarse.keys
 coarse_only th w (inl coarse) = coarse
 coarse_only th w (inr fine) = absurd (let wrong = fine.0 in cc)
 
-either : (th : Thresholds) (w : ℤ) → IsFine w ⊎ IsAmong w th.coarse → IsThreshold th false w
+either : (th : Thresholds) (w : ℤ) → IsFine w ⊎ IsAmong w th.coarse.keys → IsThreshold th false w
 either th w (inl fine) = inr (refl, fine.0, fine.1)
 either th w (inr coarse) = inl coarse
 
-one_of : (th : Thresholds) (w : ℤ) → IsThreshold th false w → IsFine w ⊎ IsAmong w th.coarse
+one_of : (th : Thresholds) (w : ℤ) → IsThreshold th false w → IsFine w ⊎ IsAmong w th.coarse.keys
 one_of th w (inl coarse) = inr coarse
 one_of th w (inr fine) = inl (fine.1, fine.2)
 
 pub down_is : (th : Thresholds) (head : Bool) (v : ℤ) → IsGreatest (IsThreshold th head) v (round_down th head v)
-down_is th true v = greatest_like _ _ v (greatest_to th.coarse v) (λ w coarse. inl coarse) (coarse_only th) (greatest_is th.coarse v)
-down_is th false v = greatest_like _ _ v (greater_of (fine_to v) (greatest_to th.coarse v)) (either th) (one_of th) (greatest_of_both IsFine (λ w. IsAmong w th.coarse) v (fine_to v) (greatest_to th.coarse v) (fine_down v) (greatest_is th.coarse v))
+down_is th true v = greatest_like _ _ v (greatest_to th.coarse.keys v) (λ w coarse. inl coarse) (coarse_only th) (greatest_is th.coarse.keys v)
+down_is th false v = greatest_like _ _ v (greater_of (fine_to v) (greatest_to th.coarse.keys v)) (either th) (one_of th) (greatest_of_both IsFine (λ w. IsAmong w th.coarse.keys) v (fine_to v) (greatest_to th.coarse.keys v) (fine_down v) (greatest_is th.coarse.keys v))
 
 pub up_is : (th : Thresholds) (head : Bool) (v : ℤ) → IsLeast (IsThreshold th head) v (round_up th head v)
-up_is th true v = least_like _ _ v (least_from th.coarse v) (λ w coarse. inl coarse) (coarse_only th) (least_is th.coarse v)
-up_is th false v = least_like _ _ v (lesser_of (fine_from v) (least_from th.coarse v)) (either th) (one_of th) (least_of_both IsFine (λ w. IsAmong w th.coarse) v (fine_from v) (least_from th.coarse v) (fine_up v) (least_is th.coarse v))
-
--- a threshold is rounded to itself
-among : (xs : List ℤ) (v : ℤ) → list_any (is_at (int_cmp v)) xs ≡ true → IsAmong v xs
-among [] v test = absurd (cc)
-among (x ∷ xs) v test = by (among xs v) (or_cases (is_at (int_cmp v) x) (list_any (is_at (int_cmp v)) xs) test)
-  where
-    by : (list_any (is_at (int_cmp v)) xs ≡ true → IsAmong v xs) → (is_at (int_cmp v) x ≡ true) ⊎ (list_any (is_at (int_cmp v)) xs ≡ true) → (x ≡ v) ⊎ IsAmong v xs
-    by more (inl same) = inl (sym ((Decides-int_eq v x).0 same))
-    by more (inr rest) = inr (more rest)
-
-threshold_tells : (th : Thresholds) (head : Bool) (v : ℤ) → is_threshold th head v ≡ true → IsThreshold th head v
-threshold_tells th head v test = by (or_cases (not head && is_fine v) (list_any (is_at (int_cmp v)) th.coarse) test)
-  where
-    fine : (not head ≡ true) × (is_fine v ≡ true) → IsThreshold th head v
-    fine (node, ends) =
-        let tests = and_parts (int_le least_fine v) (int_le v greatest_fine) ends in
-        inr (not-true head node, le_tells least_fine v tests.0, le_tells v greatest_fine tests.1)
-
-    by : ((not head && is_fine v) ≡ true) ⊎ (list_any (is_at (int_cmp v)) th.coarse ≡ true) → IsThreshold th head v
-    by (inl first) = fine (and_parts (not head) (is_fine v) first)
-    by (inr second) = inl (among th.coarse v second)
-
-greatest_itself : (P : ℤ → Type 0) (v : ℤ) (end : Option ℤ) → P v → IsGreatest P v end → end ≡ Some v
-greatest_itself P v None here is = absurd (is v here (omega (arith, ints)))
-greatest_itself P v (Some x) here is = let low = is.1 in let high = is.2 v here (omega (arith, ints)) in let same : x ≡ v = omega (arith, ints) in ap Some same
-
-least_itself : (P : ℤ → Type 0) (v : ℤ) (end : Option ℤ) → P v → IsLeast P v end → end ≡ Some v
-least_itself P v None here is = absurd (is v here (omega (arith, ints)))
-least_itself P v (Some x) here is = let high = is.1 in let low = is.2 v here (omega (arith, ints)) in let same : x ≡ v = omega (arith, ints) in ap Some same
-
-pub down_itself : (th : Thresholds) (head : Bool) (v : ℤ) → is_threshold th head v ≡ true → round_down th head v ≡ Some v
-down_itself th head v test = greatest_itself (IsThreshold th head) v (round_down th head v) (threshold_tells th head v test) (down_is th head v)
-
-pub up_itself : (th : Thresholds) (head : Bool) (v : ℤ) → is_threshold th head v ≡ true → round_up th head v ≡ Some v
-up_itself th head v test = least_itself (IsThreshold th head) v (round_up th head v) (threshold_tells th head v test) (up_is th head v)
+up_is th true v = least_like _ _ v (least_from th.coarse.keys v) (λ w coarse. inl coarse) (coarse_only th) (least_is th.coarse.keys v)
+up_is th false v = least_like _ _ v (lesser_of (fine_from v) (least_from th.coarse.keys v)) (either th) (one_of th) (least_of_both IsFine (λ w. IsAmong w th.coarse.keys) v (fine_from v) (least_from th.coarse.keys v) (fine_up v) (least_is th.coarse.keys v))
 
 nearest_down : (th : Thresholds) (head : Bool) (v : ℤ) (end : Option ℤ) → IsGreatest (IsThreshold th head) v end → IsNearestDown th head v end
 nearest_down th head v None is = is

@@ -1,9 +1,6 @@
 -- Rounding the ends of intervals outwards to the nearest threshold.
-use Rattle.std.specs.Prelude.{Bool, true, false, cond, not, ◌&&◌, ◌||◌, ℤ, pos, neg_ℤ, ◌≤ℤ◌, List, [], ◌∷◌, Option, Some, None, int_le, ◌≡◌, ◌⊎◌}
+use Rattle.std.specs.Prelude.{Bool, true, false, cond, ℤ, pos, neg_ℤ, ◌≤ℤ◌, List, [], ◌∷◌, Option, Some, None, int_le, ◌≡◌, ◌⊎◌}
 use Rattle.std.specs.Int.{int_min, int_max}
-use Rattle.std.specs.List.{list_any}
-use Rattle.std.specs.Ordering.{int_cmp}
-use Rattle.std.specs.BTreeMap.{is_at}
 use Rattle.po_arith.specs.declared.interval.Interval.{Interval}
 use Rattle.po_interval.specs.Sets.{IsAmong}
 use Rattle.po_interval.specs.Within.{interval_within}
@@ -52,10 +49,10 @@ fine_from v = cond (int_le v greatest_fine) (Some (int_max v least_fine)) None
 
 -- an end goes outwards to the nearest threshold; it is missing where there is none
 abbrev pub round_down : Thresholds → Bool → ℤ → Option ℤ
-round_down th head v = cond head (greatest_to th.coarse v) (greater_of (fine_to v) (greatest_to th.coarse v))
+round_down th head v = cond head (greatest_to th.coarse.keys v) (greater_of (fine_to v) (greatest_to th.coarse.keys v))
 
 abbrev pub round_up : Thresholds → Bool → ℤ → Option ℤ
-round_up th head v = cond head (least_from th.coarse v) (lesser_of (fine_from v) (least_from th.coarse v))
+round_up th head v = cond head (least_from th.coarse.keys v) (lesser_of (fine_from v) (least_from th.coarse.keys v))
 
 abbrev pub low_end : Thresholds → Bool → Option ℤ → Option ℤ
 low_end th head None = None
@@ -68,19 +65,9 @@ high_end th head (Some v) = round_up th head v
 abbrev pub round : Interval → Thresholds → Bool → Interval
 round a th head = record { lo = low_end th head a.lo; hi = high_end th head a.hi }
 
--- a test for thresholds
-abbrev pub is_fine : ℤ → Bool
-is_fine v = int_le least_fine v && int_le v greatest_fine
-
-abbrev pub is_fine_end : Bool → ℤ → Bool
-is_fine_end head v = not head && is_fine v
-
-abbrev pub is_threshold : Thresholds → Bool → ℤ → Bool
-is_threshold th head v = is_fine_end head v || list_any (is_at (int_cmp v)) th.coarse
-
 -- v is a threshold, at a head or elsewhere
 abbrev pub IsThreshold : Thresholds → Bool → ℤ → Type 0
-IsThreshold th head v = IsAmong v th.coarse ⊎ ((head ≡ false) × (least_fine ≤ℤ v) × (v ≤ℤ greatest_fine))
+IsThreshold th head v = IsAmong v th.coarse.keys ⊎ ((head ≡ false) × (least_fine ≤ℤ v) × (v ≤ℤ greatest_fine))
 
 -- end is the nearest threshold that isn't above v, or that isn't below; none where there is no such threshold
 abbrev pub IsNearestDown : Thresholds → Bool → ℤ → Option ℤ → Type 0

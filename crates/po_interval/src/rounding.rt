@@ -3,7 +3,7 @@ ghost use Rattle.po_interval.specs.Rounding as rounding;
 
 use crate::thresholds::Thresholds;
 use po_arith::Interval;
-use po_base::OrdList;
+use std::collections::BTreeSet;
 
 /// The ends of the fine thresholds, which hold every number between them.
 const LEAST_FINE: i128 = -65_536;
@@ -34,38 +34,24 @@ fn lesser_of(a: Option<i128>, b: Option<i128>) -> Option<i128>
     }
 }
 
-fn down_to(x: i128, v: i128) -> Option<i128>
-    ensures { result ≡ rounding.down_to x v }
-{
-    if x <= v { Some(x) } else { None }
-}
-
-fn up_to(x: i128, v: i128) -> Option<i128>
-    ensures { result ≡ rounding.up_to x v }
-{
-    if v <= x { Some(x) } else { None }
-}
-
 /// The greatest of some numbers that isn't above `v`.
-fn greatest_to(numbers: &OrdList<i128>, v: i128) -> Option<i128>
-    ensures { result ≡ rounding.greatest_to numbers.now v }
+fn greatest_to(numbers: &BTreeSet<i128>, v: i128) -> Option<i128>
+    ensures { result ≡ rounding.greatest_to numbers.now.keys v }
 {
-    let mut best = None;
-    for x in numbers.iter() {
-        best = greater_of(best, down_to(*x, v));
+    match numbers.range(..=v).next_back() {
+        Some(x) => Some(*x),
+        None => None,
     }
-    best
 }
 
 /// The least of some numbers that isn't below `v`.
-fn least_from(numbers: &OrdList<i128>, v: i128) -> Option<i128>
-    ensures { result ≡ rounding.least_from numbers.now v }
+fn least_from(numbers: &BTreeSet<i128>, v: i128) -> Option<i128>
+    ensures { result ≡ rounding.least_from numbers.now.keys v }
 {
-    let mut best = None;
-    for x in numbers.iter() {
-        best = lesser_of(best, up_to(*x, v));
+    match numbers.range(v..).next() {
+        Some(x) => Some(*x),
+        None => None,
     }
-    best
 }
 
 fn fine_to(v: i128) -> Option<i128>
@@ -110,64 +96,27 @@ fn round_up(th: &Thresholds, head: bool, v: i128) -> Option<i128>
     }
 }
 
-fn is_fine(v: i128) -> bool
-    ensures { result ≡ rounding.is_fine v }
-{
-    LEAST_FINE <= v && v <= GREATEST_FINE
-}
-
-/// Whether a number is a fine threshold where these count.
-fn is_fine_end(head: bool, v: i128) -> bool
-    ensures { result ≡ rounding.is_fine_end head v }
-{
-    !head && is_fine(v)
-}
-
-/// Whether a number is a threshold, and so is rounded to itself: this takes time in the logarithm of the coarse ones.
-fn is_threshold(th: &Thresholds, head: bool, v: i128) -> bool
-    ensures { result ≡ rounding.is_threshold th.now head v }
-{
-    if is_fine_end(head, v) {
-        true
-    } else {
-        th.coarse.has(&v)
-    }
-}
-
-#[tactic(auto, using(crate::proofs::Nearest::down_itself))]
 fn low_end(th: &Thresholds, head: bool, end: Option<i128>) -> Option<i128>
     ensures { result ≡ rounding.low_end th.now head end }
 {
     match end {
         None => None,
-        Some(v) => {
-            if is_threshold(th, head, v) {
-                Some(v)
-            } else {
-                round_down(th, head, v)
-            }
-        }
+        Some(v) => round_down(th, head, v),
     }
 }
 
-#[tactic(auto, using(crate::proofs::Nearest::up_itself))]
 fn high_end(th: &Thresholds, head: bool, end: Option<i128>) -> Option<i128>
     ensures { result ≡ rounding.high_end th.now head end }
 {
     match end {
         None => None,
-        Some(v) => {
-            if is_threshold(th, head, v) {
-                Some(v)
-            } else {
-                round_up(th, head, v)
-            }
-        }
+        Some(v) => round_up(th, head, v),
     }
 }
 
 /// The interval with both ends moved outwards to the nearest threshold; an end past all thresholds is missing
-/// then. At a head the thresholds are the coarse ones, elsewhere also -65,536..65,536.
+/// then. At a head the thresholds are the coarse ones, elsewhere also -65,536..65,536. It takes time in the logarithm of the coarse
+/// thresholds' number.
 pub fn round(a: &Interval, th: &Thresholds, head: bool) -> Interval
     ensures { result ≡ rounding.round a.now th.now head }
 {

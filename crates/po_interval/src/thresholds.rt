@@ -1,8 +1,8 @@
-use po_base::OrdList;
+use std::collections::BTreeSet;
 
 /// The numbers at which intervals of a function end: at the heads of its loops only the coarse ones, and
 /// elsewhere also all of -65,536..65,536.
 #[derive(Drop)]
 pub struct Thresholds {
-    pub coarse: OrdList<i128>,
+    pub coarse: BTreeSet<i128>,
 }

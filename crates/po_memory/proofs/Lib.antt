@@ -1,3 +1,11 @@
 pub mod General
+pub mod Congruent
+pub mod Numbers
+pub mod ReadBytes
+pub mod WrittenBytes
 pub mod Along
 pub mod Passed
+pub mod Pasted
+pub mod Came
+pub mod ReadBack
+pub mod Asked

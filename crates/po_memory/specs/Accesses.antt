@@ -12,7 +12,7 @@ use Rattle.po_memory.specs.declared.value.Value.TheVariants.{Pointer}
 use Rattle.po_memory.specs.Values.{pointer_base}
 use Rattle.po_memory.specs.Blocks.{IsLive, Spans, IsFilled, IsWritable, IsAligned, OnPointer, IsNotNull}
 use Rattle.po_memory.specs.Holding.{Holds}
-use Rattle.po_memory.specs.Bytes.{AreRead, AreStored, AreCopied, zeros}
+use Rattle.po_memory.specs.Bytes.{AreRead, AreStored, AreCopied, IsAccess, LiesIn, zeros}
 
 -- ---- what is asked of a place
 
@@ -76,9 +76,12 @@ pub record Reads (blocks : List Block) (at : Value) (size : ℕ) (bytes : List B
   pub points : PointsInto blocks at block start whole
   pub same : bytes ≡ slice_range whole.bytes start (start + size)
 
--- a block with bytes written over its own from a place on
+-- bytes written over others from a place on
+abbrev pub pasted : List Byte → ℕ → List Byte → List Byte
+pasted old start bytes = take start old ++ (bytes ++ drop (start + length bytes) old)
+
 abbrev pub overwritten : Block → ℕ → List Byte → Block
-overwritten c start bytes = record c { bytes = take start c.bytes ++ (bytes ++ drop (start + length bytes) c.bytes) }
+overwritten c start bytes = record c { bytes = pasted c.bytes start bytes }
 
 -- the bytes are written from the pointer on, and nothing else changes
 pub record Writes (blocks : List Block) (at : Value) (bytes : List Byte) (after : List Block) : Type 0 where
@@ -118,3 +121,12 @@ pub record Kills (blocks : List Block) (block : ℕ) (after : List Block) : Type
   pub whole : Block
   pub there : slice_get blocks block ≡ Some whole
   pub becomes : after ≡ slice_set blocks block (killed whole)
+
+-- what a store wrote a load by the same access reads, and it is allowed
+pub record ReadsBack (access : Access) (after : List Block) (at v : Value) : Type 0 where
+  pub allowed : LoadAllowed access after at
+  pub there : Loads access after at v
+  pub only : (w : Value) → Loads access after at w → w ≡ v
+
+abbrev pub StoresAreRead : Type 0
+StoresAreRead = (access : Access) (blocks after : List Block) (at v : Value) → IsAccess access → LiesIn access.ty v → StoreAllowed access blocks at → Stores access blocks at v after → ReadsBack access after at v

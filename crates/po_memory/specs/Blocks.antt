@@ -21,9 +21,12 @@ IsInside c z = (pos 0 ≤ℤ z) × (z ≤ℤ pos (length c.bytes))
 abbrev pub Spans : ℤ → ℤ → ℤ → Block → Type 0
 Spans lo hi o c = IsInside c (o +ℤ lo) × IsInside c (o +ℤ hi)
 
--- no byte from the lower end up to, not including, the upper one is without a value (6.2.4p5)
+-- no byte from the one place up to, not including, the other is without a value (6.2.4p5)
+abbrev pub HaveValues : ℤ → ℤ → List Byte → Type 0
+HaveValues from to bytes = (i : ℕ) → from ≤ℤ pos i → pos i <ℤ to → slice_get bytes i ≢ Some byte.Blank
+
 abbrev pub IsFilled : ℤ → ℤ → ℤ → Block → Type 0
-IsFilled lo hi o c = (i : ℕ) → (o +ℤ lo) ≤ℤ pos i → pos i <ℤ (o +ℤ hi) → slice_get c.bytes i ≢ Some byte.Blank
+IsFilled lo hi o c = HaveValues (o +ℤ lo) (o +ℤ hi) c.bytes
 
 abbrev pub IsWritable : ℤ → Block → Type 0
 IsWritable o c = c.writable ≡ true

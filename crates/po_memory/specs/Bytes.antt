@@ -1,5 +1,5 @@
 -- How values stand in bytes, the lowest byte first: what bytes are as a value, and which bytes a value is stored as.
-use Rattle.std.specs.Prelude.{ℕ, ◌+◌, ◌*◌, ◌^◌, ◌<◌, ◌≡◌, ◌≢◌, ℤ, pos, List, [], ◌∷◌, map, length, replicate, All}
+use Rattle.std.specs.Prelude.{ℕ, ◌+◌, ◌*◌, ◌^◌, ◌<◌, ◌≤◌, ◌≡◌, ◌≢◌, ℤ, pos, List, [], ◌∷◌, map, length, replicate, All}
 use Rattle.std.specs.List.{range_with_len}
 use Rattle.po_arith.specs.declared.int_type.IntType.{IntType}
 use Rattle.po_arith.specs.declared.target.Target.{Target}
@@ -111,3 +111,8 @@ IsTypeOfTarget Ptr = Unit {0}
 pub record IsAccess (access : Access) : Type 0 where
   pub typed : IsTypeOfTarget access.ty
   pub fits : (target : Target) × AccessFits target access
+
+-- a number's bytes hold its width
+abbrev pub HasSize : Ty → ℕ → Type 0
+HasSize (Int t) size = t.bits ≤ 8 * size
+HasSize Ptr size = Unit {0}

@@ -4,4 +4,5 @@ pub mod Holding
 pub mod Bytes
 pub mod Accesses
 pub mod Since
+pub mod Walking
 pub mod Passing

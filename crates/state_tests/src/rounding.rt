@@ -1,17 +1,18 @@
 use crate::sample::{bases_of, between, one_block, state_of};
 use po_arith::Interval;
 use po_astate::{AState, AValue, below_state, round_state};
-use po_base::{Memory, OrdList};
+use po_base::Memory;
 use po_bases::{Base, Entry};
 use po_interval::{Members, Thresholds};
-use std::alloc::Global;
+use std::alloc::{AllocError, Global};
+use std::collections::BTreeSet;
 use std::test::Fail;
 
 /// The ends -100, -1, 0, 1, 10 and 100,000.
 fn thresholds(alloc: Global) -> Result<Thresholds, Memory> {
-    let mut coarse = OrdList::new(alloc);
+    let mut coarse = BTreeSet::new(alloc);
     for number in [-100, -1, 0, 1, 10, 100_000] {
-        coarse.insert(number)?;
+        coarse.insert(number).map_err(AllocError::from)?;
     }
     Ok(Thresholds { coarse })
 }

@@ -1,0 +1,18 @@
+use Rattle.std.proofs.Common.{rules, FitsSigned}
+use Rattle.std.specs.Int.{w128}
+use Rattle.std.proofs.lemmas.Int.{to_z-of_z}
+use Rattle.po_interval.proofs.Searched.{first_found, none_from}
+use Rattle.po_interval.proofs.rounding.least_from.Goals as goal
+
+pub returns-in-Some : goal.returns-in-Some
+returns-in-Some c =
+    let v = c.ranges.v in
+    let x : FitsSigned w128 c.in-Some.x.now = search rules in
+    let range = simp to_z-of_z at c.range.ensures.in_range in
+    simp to_z-of_z (first_found c.args.numbers.now c.args.v c.in-Some.x.now c.range.result c.next.new.self (range tt) c.in-Some.ensures.steps)
+
+pub returns-in-None : goal.returns-in-None
+returns-in-None c =
+    let v = c.ranges.v in
+    let range = simp to_z-of_z at c.range.ensures.in_range in
+    none_from c.args.numbers.now c.args.v c.range.result (range tt) c.in-None.ensures.steps.0

@@ -1,0 +1,9 @@
+pub mod Scopes
+pub mod Operands
+pub mod Constants
+pub mod BaseTypes
+pub mod Expressions
+pub mod Initialisers
+pub mod Declarations
+pub mod Statements
+pub mod Environments

@@ -1,0 +1,4 @@
+mod Large
+mod OneSpelling
+mod OneLayout
+mod Promoting

@@ -1,0 +1,53 @@
+ghost use Rattle.std.specs.Prelude.{◌≡◌, [], ◌∷◌, ◌++◌, None, IfOk, OnOk, OnErr};
+ghost use Rattle.std.specs.Option.{option_copied};
+ghost use Rattle.po_types.specs.Tables.{found};
+
+use indexmap::IndexMap;
+use po_base::{Memory, Text};
+use std::alloc::Global;
+use std::marker::Model;
+
+/// What names stand for, which contracts see as the list of names and what each stands for, in the order in which they
+/// were added. Each name stands in it once, and is found in constant time on the average.
+#[derive(Drop)]
+pub struct Table<V> {
+    entries: IndexMap<Text, V>,
+}
+
+impl<V> Model for Table<V> {
+    ghost use Rattle.std.specs.Prelude.{List, ℕ};
+
+    ghost Value = { List (List ℕ × V) };
+
+    ghost view = { λ t. t.entries.entries };
+}
+
+impl<V: Drop> Table<V> {
+    /// No names yet.
+    pub fn new(alloc: Global) -> Table<V>
+        ensures { result ≡ [] }
+    {
+        Table {
+            entries: IndexMap::new(alloc),
+        }
+    }
+
+    /// What a name stands for, where it stands for something.
+    pub fn find(&self, name: &Text) -> Option<&V>
+        ensures { option_copied result ≡ found self.now name.now }
+    {
+        self.entries.get(name)
+    }
+
+    /// Adds a name that isn't there yet.
+    pub fn add(&mut self, name: Text, value: V) -> Result<(), Memory>
+        requires { found self.old name ≡ None }
+        ensures ok { OnOk result (self.new ≡ self.old ++ (name, value) ∷ []) }
+        ensures err { OnErr result (self.new ≡ self.old) }
+    {
+        match self.entries.insert(name, value) {
+            Ok(_) => Ok(()),
+            Err(_) => Err(Memory),
+        }
+    }
+}
