@@ -1,5 +1,5 @@
 -- A predicate on its parameters at the entry of a called function.
-use Rattle.std.specs.Prelude.{ℕ, ◌≡◌, ◌≢◌, ◌⊎◌, ◌↔◌, false, true, ℤ, pos, List, [], ◌∷◌, Option, Some, None, MatchOption, map, take, slice_get}
+use Rattle.std.specs.Prelude.{ℕ, ◌≡◌, ◌↔◌, false, List, [], ◌∷◌, Option, Some, MatchOption, map, take, slice_get}
 use Rattle.std.proofs.Common.{refl, sym, ap, ◌∙◌, subst, inl, inr}
 use Rattle.std.specs.List.{AllZip}
 use Rattle.std.proofs.Math.Seq.{take-nil}
@@ -25,8 +25,7 @@ use Rattle.po_memory.specs.Holding.{Holds}
 use Rattle.po_memory.specs.Passing.{HasValue, SubstKeepsHolds}
 use Rattle.po_pred.specs.Subst.{put_in}
 use Rattle.po_meaning.specs.Operands.{value_at, ArePassed}
-use Rattle.po_meaning.specs.States.{State, StandsAt, start_frame}
-use Rattle.po_meaning.specs.Steps.{Enters}
+use Rattle.po_meaning.specs.States.{StandsAt}
 use Rattle.po_meaning.specs.Laws.{EntryKeepsHolds}
 use Rattle.po_meaning.proofs.Places.{at_place}
 
@@ -70,7 +69,7 @@ lie_in library p f to n args strings caller callee whole stands there t rest sam
     let fits : FunctionFits library p f = at_place (FunctionFits library p) p.functions caller.function.0 f whole.functions stands.of in
     let called : FunctionFits library p callee = at_place (FunctionFits library p) p.functions n.0 callee whole.functions there in
     let call : CallFits f.graph to args callee = fits_at (slice_get p.functions n.0) (λ (c : Function). (IsUnread c → ⊥) → CallFits f.graph to args c) callee there
-            ((fits.instructions caller.node.0 _ stands.node).callees_fit) (λ unread. no_types callee t rest (called.unread_has_nothing unread).0 same) in
+    ((fits.instructions caller.node.0 _ stands.node).callees_fit) (λ unread. no_types callee t rest (called.unread_has_nothing unread).0 same) in
     call.passes
 
 pub entry_keeps_holds : SubstKeepsHolds → EntryKeepsHolds

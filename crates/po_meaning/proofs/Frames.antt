@@ -1,7 +1,7 @@
 -- What holds of a frame still holds of it at the node after a step: where a register gets a value, where one loses it, and where none
 -- changes.
-use Rattle.std.specs.Prelude.{ℕ, zero, suc, ◌+◌, ◌≡◌, ◌≢◌, ◌<◌, ◌⊎◌, true, false, List, [], ◌∷◌, Option, Some, None, MatchOption, Contains, length, slice_get, slice_set}
-use Rattle.std.proofs.Common.{refl, sym, ap, ◌∙◌, subst, arith, inl, inr}
+use Rattle.std.specs.Prelude.{ℕ, suc, ◌+◌, ◌≡◌, ◌≢◌, ◌<◌, ◌⊎◌, true, false, ◌∷◌, Option, Some, None, MatchOption, Contains, length, slice_get}
+use Rattle.std.proofs.Common.{sym, ap, ◌∙◌, subst, arith, inl, inr}
 use Rattle.std.proofs.lemmas.List.{length-set}
 use Rattle.std.proofs.lemmas.Option.{slice_get_within}
 use Rattle.po_base.specs.declared.numbers.NodeNo.{NodeNo}
@@ -13,13 +13,13 @@ use Rattle.po_ir.specs.declared.instr.Instr.{Instr}
 use Rattle.po_ir.specs.declared.project.Function.{Function}
 use Rattle.po_ir.specs.declared.project.Project.{Project}
 use Rattle.po_ir.specs.Instructions.{written, entered, followers}
-use Rattle.po_ir.specs.Paths.{NodeAt, Path, step, Reachable}
+use Rattle.po_ir.specs.Paths.{NodeAt, step, Reachable}
 use Rattle.po_ir.specs.Whole.{IsTemporary, IsVariable}
 use Rattle.po_memory.specs.declared.frame.Frame.{Frame}
 use Rattle.po_memory.specs.declared.value.Value.{Value}
 use Rattle.po_memory.specs.Bytes.{LiesIn}
 use Rattle.po_memory.specs.Values.{held, register_value}
-use Rattle.po_meaning.specs.Operands.{slot_block, at_node, onward, put, without_value}
+use Rattle.po_meaning.specs.Operands.{at_node, put, without_value}
 use Rattle.po_meaning.specs.States.{IsOf}
 use Rattle.po_meaning.specs.Needs.{NeedsRegister, NeedsSlot}
 use Rattle.po_meaning.specs.Belongs.{HasPlace, HasTypes, HasSome, HasValues, HasSlots, FrameBelongs}
@@ -71,14 +71,14 @@ belongs_of p f fr of k = record { function = f; of = of; place = k.place; types 
 pub fits_at : (f : Function) (fr : Frame) (i : Instr) (m : NodeNo) → NodeAt f.graph fr.node.0 i → Contains (followers fr.node.0 i) m.0 → written i ≡ None → entered i ≡ None →
     Fits f fr → Fits f (at_node m fr)
 fits_at f fr i m at to none same k = record {
-    place = record { node = reach_more f.graph fr.node.0 m.0 i at to k.place.node; registers = k.place.registers; slots = k.place.slots; arguments = k.place.arguments };
-    types = record { registers = k.types.registers; arguments = k.types.arguments };
-    values = record {
-      parameters = k.values.parameters;
-      temporaries = λ r is needs. k.values.temporaries r is (register_before f.graph r fr.node.0 m.0 i at to (some_not_none (written i) r none) needs)
-    };
-    slots = λ s needs. k.slots s (slot_before f.graph s fr.node.0 m.0 i at to (some_not_none (entered i) s same) needs)
-  }
+  place = record { node = reach_more f.graph fr.node.0 m.0 i at to k.place.node; registers = k.place.registers; slots = k.place.slots; arguments = k.place.arguments };
+  types = record { registers = k.types.registers; arguments = k.types.arguments };
+  values = record {
+    parameters = k.values.parameters;
+    temporaries = λ r is needs. k.values.temporaries r is (register_before f.graph r fr.node.0 m.0 i at to (some_not_none (written i) r none) needs);
+  };
+  slots = λ s needs. k.slots s (slot_before f.graph s fr.node.0 m.0 i at to (some_not_none (entered i) s same) needs);
+}
 
 module _ (f : Function) (fr : Frame) (to : RegNo) (v : Value) (register : Register) (there : slice_get f.graph.regs to.0 ≡ Some register) (k : Fits f fr) where
   pub within : to.0 < length fr.regs
@@ -101,20 +101,20 @@ module _ (f : Function) (fr : Frame) (to : RegNo) (v : Value) (register : Regist
   -- a step to the next node that writes the register and enters no slot
   pub fits_put : (i : Instr) → NodeAt f.graph fr.node.0 i → Contains (followers fr.node.0 i) (fr.node.0 + 1) → written i ≡ Some to → entered i ≡ None → LiesIn register.ty v → Fits f (put to v fr)
   fits_put i at next is none lies = record {
-      place = record {
-        node = reach_more f.graph fr.node.0 (fr.node.0 + 1) i at next k.place.node;
-        registers = length-set fr.regs to.0 (Some v) ∙ k.place.registers;
-        slots = k.place.slots;
-        arguments = k.place.arguments
-      };
-      types = record { registers = λ r other w here has. put_type lies r other w here has (same_or_not r to.0); arguments = k.types.arguments };
-      values = record {
-        parameters = λ r other here param. put_some r (same_or_not r to.0) (λ not_same. k.values.parameters r other here param);
-        temporaries = λ r temporary needs.
-            put_some r.0 (same_or_not r.0 to.0) (λ not_same. k.values.temporaries r temporary (register_before f.graph r fr.node.0 (fr.node.0 + 1) i at next (other_written i r is not_same) needs))
-      };
-      slots = λ s needs. k.slots s (slot_before f.graph s fr.node.0 (fr.node.0 + 1) i at next (some_not_none (entered i) s none) needs)
-    }
+    place = record {
+      node = reach_more f.graph fr.node.0 (fr.node.0 + 1) i at next k.place.node;
+      registers = length-set fr.regs to.0 (Some v) ∙ k.place.registers;
+      slots = k.place.slots;
+      arguments = k.place.arguments;
+    };
+    types = record { registers = λ r other w here has. put_type lies r other w here has (same_or_not r to.0); arguments = k.types.arguments };
+    values = record {
+      parameters = λ r other here param. put_some r (same_or_not r to.0) (λ not_same. k.values.parameters r other here param);
+      temporaries = λ r temporary needs.
+          put_some r.0 (same_or_not r.0 to.0) (λ not_same. k.values.temporaries r temporary (register_before f.graph r fr.node.0 (fr.node.0 + 1) i at next (other_written i r is not_same) needs));
+    };
+    slots = λ s needs. k.slots s (slot_before f.graph s fr.node.0 (fr.node.0 + 1) i at next (some_not_none (entered i) s none) needs);
+  }
 
 told_at : {X : Type 0} (o : Option X) (P : X → Type 0) (x : X) → o ≡ Some x → MatchOption o ⊥ P → P x
 told_at o P x is given = subst (λ (r : Option _). MatchOption r ⊥ P) is given
@@ -147,16 +147,16 @@ module _ (f : Function) (fr : Frame) (r : RegNo) (variable : IsVariable f.graph 
   -- a step to the next node at which the register loses its value
   pub fits_without : (i : Instr) → NodeAt f.graph fr.node.0 i → Contains (followers fr.node.0 i) (fr.node.0 + 1) → written i ≡ None → entered i ≡ None → Fits f (without_value r fr)
   fits_without i at next none same = record {
-      place = record {
-        node = reach_more f.graph fr.node.0 (fr.node.0 + 1) i at next k.place.node;
-        registers = length-set fr.regs r.0 None ∙ k.place.registers;
-        slots = k.place.slots;
-        arguments = k.place.arguments
-      };
-      types = record { registers = λ j other w here has. left_type j other w here has (same_or_not j r.0); arguments = k.types.arguments };
-      values = record {
-        parameters = λ j other here param. left_parameter j other here param (same_or_not j r.0);
-        temporaries = λ t temporary needs. left_temporary i t at next none temporary needs (same_or_not t.0 r.0)
-      };
-      slots = λ s needs. k.slots s (slot_before f.graph s fr.node.0 (fr.node.0 + 1) i at next (some_not_none (entered i) s same) needs)
-    }
+    place = record {
+      node = reach_more f.graph fr.node.0 (fr.node.0 + 1) i at next k.place.node;
+      registers = length-set fr.regs r.0 None ∙ k.place.registers;
+      slots = k.place.slots;
+      arguments = k.place.arguments;
+    };
+    types = record { registers = λ j other w here has. left_type j other w here has (same_or_not j r.0); arguments = k.types.arguments };
+    values = record {
+      parameters = λ j other here param. left_parameter j other here param (same_or_not j r.0);
+      temporaries = λ t temporary needs. left_temporary i t at next none temporary needs (same_or_not t.0 r.0);
+    };
+    slots = λ s needs. k.slots s (slot_before f.graph s fr.node.0 (fr.node.0 + 1) i at next (some_not_none (entered i) s same) needs);
+  }

@@ -1,6 +1,6 @@
 -- A step of a plain instruction leads from a state that belongs to a project to one that belongs to it.
-use Rattle.std.specs.Prelude.{ℕ, ◌+◌, ◌*◌, ◌≡◌, ◌≢◌, ◌<◌, ◌≤◌, ◌⊎◌, true, false, not, cond, ℤ, pos, List, [], ◌∷◌, All, Bool, Option, Some, None, MatchOption, Contains, length, slice_get}
-use Rattle.std.proofs.Common.{refl, sym, ap, ◌∙◌, subst, arith, inl, inr}
+use Rattle.std.specs.Prelude.{ℕ, ◌+◌, ◌*◌, ◌≡◌, ◌≢◌, ◌<◌, ◌⊎◌, true, false, cond, ℤ, pos, List, [], ◌∷◌, All, Bool, Option, Some, None, MatchOption, Contains, length, slice_get}
+use Rattle.std.proofs.Common.{refl, sym, ◌∙◌, subst, arith, inl, inr}
 use Rattle.std.proofs.lemmas.Int.{ints}
 use Rattle.std.proofs.lemmas.Option.{slice_get_within}
 use Rattle.po_base.specs.declared.numbers.GlobalNo.{GlobalNo}
@@ -16,7 +16,6 @@ use Rattle.po_base.specs.declared.operand.Opnd.{Opnd}
 use Rattle.po_base.specs.declared.operand.Opnd.TheVariants as operand
 use Rattle.po_arith.specs.declared.int_type.IntType.{IntType}
 use Rattle.po_arith.specs.Types.{IsIntType}
-use Rattle.po_interval.specs.Results.{truth}
 use Rattle.po_interval.specs.Gathering.{BinMembersCover, ResultsAreOfType}
 use Rattle.po_ir.specs.declared.graph.Reg.{Reg as Register}
 use Rattle.po_ir.specs.declared.graph.Node.{Node}
@@ -34,17 +33,17 @@ use Rattle.po_ir.specs.Whole.{Signature, IsWhole, FunctionFits, InstructionFits}
 use Rattle.po_memory.specs.declared.block.Block.{Block}
 use Rattle.po_memory.specs.declared.frame.Frame.{Frame}
 use Rattle.po_memory.specs.declared.value.Value.{Value}
-use Rattle.po_memory.specs.declared.value.Value.TheVariants.{Number, Null, Pointer, Wild}
+use Rattle.po_memory.specs.declared.value.Value.TheVariants.{Number, Null, Pointer}
 use Rattle.po_memory.specs.Blocks.{IsOfWidth}
 use Rattle.po_memory.specs.Bytes.{LiesIn}
-use Rattle.po_memory.specs.Values.{held, register_value}
+use Rattle.po_memory.specs.Values.{register_value}
 use Rattle.po_gen.specs.IntTypes.{IsTypeOfTarget, types_in, HasTypesOfTarget, AreTypesOfTarget}
-use Rattle.po_meaning.specs.Operands.{pointer_value, as_value, block_held, at_node, put, without_value}
+use Rattle.po_meaning.specs.Operands.{pointer_value, as_value, at_node, put, without_value}
 use Rattle.po_meaning.specs.States.{State, IsOf, StandsAt}
-use Rattle.po_meaning.specs.Local.{Tests, Computes, Converts, IsDistance, Local}
+use Rattle.po_meaning.specs.Local.{IsDistance, Local}
 use Rattle.po_meaning.specs.Belongs.{FrameBelongs, PointsThere, FramePoints, Belongs}
-use Rattle.po_meaning.specs.Laws.{IsPlain, PlainStepsStay}
-use Rattle.po_meaning.proofs.Places.{at_place, same_item, set_same, set_other, same_or_not, item_at, held_within, is_first, is_second, All-head}
+use Rattle.po_meaning.specs.Laws.{PlainStepsStay}
+use Rattle.po_meaning.proofs.Places.{at_place, same_item, same_or_not, item_at, held_within, is_first, is_second, All-head}
 use Rattle.po_meaning.proofs.Frames.{Fits, fits_of, belongs_of, fits_at, fits_put, within, within_regs, fits_without, put_value, put_others, no_value, without_others, some_not_none}
 use Rattle.po_meaning.proofs.States.{state, belongs_kept}
 use Rattle.po_meaning.proofs.Results.{kept_value, unary_lies, conv_lies, number_fits, comparison_fits}
@@ -101,9 +100,9 @@ module _ (p : Project) (f : Function) (s : State) (of : IsOf p s.top f) (before 
       slice_get f.graph.regs to.0 ≡ Some x → LiesIn x.ty v → PointsThere p.target s.memory v → Belongs p (state (put to v s.top) s.rest s.memory)
   put_stays i to v x stands next is none there lies points =
       belongs_kept p s.top (put to v s.top) s.rest s.memory refl refl
-          (belongs_of p f (put to v s.top) of (fits_put f s.top to v x there fits_before i stands.node next is none lies))
-          (record { registers = λ r w has. points_put r w has (same_or_not r to.0); arguments = points_before.arguments })
-          before
+      (belongs_of p f (put to v s.top) of (fits_put f s.top to v x there fits_before i stands.node next is none lies))
+      (record { registers = λ r w has. points_put r w has (same_or_not r to.0); arguments = points_before.arguments })
+      before
     where
       points_put : (r : ℕ) (w : Value) → register_value (put to v s.top) r ≡ Some w → (r ≡ to.0) ⊎ (r ≢ to.0) → PointsThere p.target s.memory w
       points_put r w has (inl same) = subst (PointsThere p.target s.memory) (same_item _ v w (put_value s.top to v (within f s.top to v x there fits_before)) (subst (λ (j : ℕ). register_value (put to v s.top) j ≡ Some w) same has)) points
@@ -113,9 +112,9 @@ module _ (p : Project) (f : Function) (s : State) (of : IsOf p s.top f) (before 
   pub goes_stays : (i : Instr) (m : NodeNo) → StandsAt p s.top f i → Contains (followers s.top.node.0 i) m.0 → written i ≡ None → entered i ≡ None → Belongs p (state (at_node m s.top) s.rest s.memory)
   goes_stays i m stands next is none =
       belongs_kept p s.top (at_node m s.top) s.rest s.memory refl refl
-          (belongs_of p f (at_node m s.top) of (fits_at f s.top i m stands.node next is none fits_before))
-          (record { registers = points_before.registers; arguments = points_before.arguments })
-          before
+      (belongs_of p f (at_node m s.top) of (fits_at f s.top i m stands.node next is none fits_before))
+      (record { registers = points_before.registers; arguments = points_before.arguments })
+      before
 
 -- the state is the one that was told
 pub arrives : (p : Project) (u : State) (now : Frame) (rest : List Frame) (m : List Block) → u.top ≡ now → u.rest ≡ rest → u.memory ≡ m → Belongs p (state now rest m) → Belongs p u
@@ -155,46 +154,46 @@ module _ (of_type : ResultsAreOfType) (cover : (o : Op) → BinMembersCover o) (
       let fits = typed_as f.graph to (λ r. IsValue r value) ((instr_fits (Const to value) stands).result_fits) in
       let same : fits.register.ty ≡ t = told_of f.graph to (λ r. r ≡ t) fits.register fits.there typed in
       put_done (Const to value) to (as_value t value) fits.register stands (is_first _ []) refl refl fits.there
-          (subst (λ (r : Ty). LiesIn fits.register.ty (as_value r value)) same (as_lies fits.register.ty value fits.typed)) (value_there t value) top memory
+      (subst (λ (r : Ty). LiesIn fits.register.ty (as_value r value)) same (as_lies fits.register.ty value fits.typed)) (value_there t value) top memory
 
   pub copy_stays : (to from : RegNo) → StandsAt p s.top f (Copy to from) → Local p f.graph (Copy to from) s.top s.memory u.top u.memory → Belongs p u
   copy_stays to from stands (v, is, top, memory) =
       let source = typed_as f.graph from (λ r. TypeIs f.graph to (λ t. IsKept r t)) ((instr_fits (Copy to from) stands).result_fits) in
       let target = typed_as f.graph to (λ t. IsKept source.register.ty t) source.typed in
       put_done (Copy to from) to v target.register stands (is_first _ []) refl refl target.there
-          (kept_value source.register.ty target.register.ty v target.typed (register_lies p f s stands.of before from source.register v source.there is))
-          ((points_before p f s stands.of before).registers from.0 v is) top memory
+      (kept_value source.register.ty target.register.ty v target.typed (register_lies p f s stands.of before from source.register v source.there is))
+      ((points_before p f s stands.of before).registers from.0 v is) top memory
 
   pub bin_stays : (to : RegNo) (o : Op) (ty : Ty) (a b : Opnd) → StandsAt p s.top f (Bin to o ty a b) → Local p f.graph (Bin to o ty a b) s.top s.memory u.top u.memory → Belongs p u
   bin_stays to o (Int t) a b stands (x, (v, w, y, one, other, is, same), top, memory) =
       let int : IsIntType t = All-head IsTypeOfTarget (Int t) [] (types_of (Bin to o (Int t) a b) stands) in
       let target = typed_as f.graph to (λ r. cond (is_comparison o) (HasTruth r) (IsKept (Int t) r)) ((instr_fits (Bin to o (Int t) a b) stands).result_fits) in
       put_done (Bin to o (Int t) a b) to x target.register stands (is_first _ []) refl refl target.there
-          (subst (LiesIn target.register.ty) (sym same) (number_fits of_type cover o t target.register.ty v w y int target.typed is))
-          (subst (PointsThere p.target s.memory) (sym same) tt) top memory
+      (subst (LiesIn target.register.ty) (sym same) (number_fits of_type cover o t target.register.ty v w y int target.typed is))
+      (subst (PointsThere p.target s.memory) (sym same) tt) top memory
   bin_stays to o Ptr a b stands (x, (holds, (v, w, one, other, may), same), top, memory) =
       let target = typed_as f.graph to (λ r. cond (is_comparison o) (HasTruth r) (IsKept Ptr r)) ((instr_fits (Bin to o Ptr a b) stands).result_fits) in
       put_done (Bin to o Ptr a b) to x target.register stands (is_first _ []) refl refl target.there
-          (subst (LiesIn target.register.ty) (sym same) (comparison_fits o target.register.ty v w holds target.typed may))
-          (subst (PointsThere p.target s.memory) (sym same) tt) top memory
+      (subst (LiesIn target.register.ty) (sym same) (comparison_fits o target.register.ty v w holds target.typed may))
+      (subst (PointsThere p.target s.memory) (sym same) tt) top memory
 
   pub un_stays : (to : RegNo) (o : UnOp) (t : IntType) (a : Opnd) → StandsAt p s.top f (Un to o t a) → Local p f.graph (Un to o t a) s.top s.memory u.top u.memory → Belongs p u
   un_stays to o t a stands (v, x, one, is, top, memory) =
       let target = typed_as f.graph to (λ r. IsKept (Int t) r) ((instr_fits (Un to o t a) stands).result_fits) in
       put_done (Un to o t a) to (Number x) target.register stands (is_first _ []) refl refl target.there
-          (kept_value (Int t) target.register.ty (Number x) target.typed (unary_lies of_type o t v x is)) tt top memory
+      (kept_value (Int t) target.register.ty (Number x) target.typed (unary_lies of_type o t v x is)) tt top memory
 
   pub conv_stays : (to : RegNo) (from : Opnd) (ty : Ty) (align : ℕ) → StandsAt p s.top f (Conv to from ty align) → Local p f.graph (Conv to from ty align) s.top s.memory u.top u.memory → Belongs p u
   conv_stays to from (Int t) align stands (x, (v, y, one, is, same), top, memory) =
       let target = typed_as f.graph to (λ r. IsKept (Int t) r) ((instr_fits (Conv to from (Int t) align) stands).result_fits) in
       put_done (Conv to from (Int t) align) to x target.register stands (is_first _ []) refl refl target.there
-          (subst (LiesIn target.register.ty) (sym same) (kept_value (Int t) target.register.ty (Number y) target.typed (conv_lies of_type t v y is)))
-          (subst (PointsThere p.target s.memory) (sym same) tt) top memory
+      (subst (LiesIn target.register.ty) (sym same) (kept_value (Int t) target.register.ty (Number y) target.typed (conv_lies of_type t v y is)))
+      (subst (PointsThere p.target s.memory) (sym same) tt) top memory
   conv_stays to from Ptr align stands (x, is, top, memory) =
       let target = typed_as f.graph to (λ r. IsKept Ptr r) ((instr_fits (Conv to from Ptr align) stands).result_fits) in
       put_done (Conv to from Ptr align) to x target.register stands (is_first _ []) refl refl target.there
-          (kept_value Ptr target.register.ty x target.typed (pointer_lies p f s stands.of before from x ((instr_fits (Conv to from Ptr align) stands).operands_lie) is))
-          (pointer_there p f s stands.of before from x is) top memory
+      (kept_value Ptr target.register.ty x target.typed (pointer_lies p f s stands.of before from x ((instr_fits (Conv to from Ptr align) stands).operands_lie) is))
+      (pointer_there p f s stands.of before from x is) top memory
 
   distance_lies : (size : ℕ) (a b : Opnd) (t : Ty) (v : Value) → IsDistance size s.top a b t v → LiesIn t v × PointsThere p.target s.memory v
   distance_lies size a b (Int t) x (v, w, n, y, one, other, away, wrapped, same) = (subst (LiesIn (Int t)) (sym same) wrapped.0, subst (PointsThere p.target s.memory) (sym same) tt)
@@ -255,10 +254,10 @@ module _ (of_type : ResultsAreOfType) (cover : (o : Op) → BinMembersCover o) (
       let is = (instr_fits (Enter (variable.Reg r)) stands).opens_variables in
       let now : Frame = without_value r s.top in
       arrives p u now s.rest s.memory top below memory
-          (belongs_kept p s.top now s.rest s.memory refl refl
-              (belongs_of p f now stands.of (fits_without f s.top r is (variable_within (slice_get f.graph.regs r.0) f.graph.regs r.0 refl is) (fits_before p f s stands.of before) (Enter (variable.Reg r)) stands.node (is_first _ []) refl refl))
-              (record { registers = λ j w has. points_left j w has (same_or_not j r.0); arguments = (points_before p f s stands.of before).arguments })
-              before)
+      (belongs_kept p s.top now s.rest s.memory refl refl
+      (belongs_of p f now stands.of (fits_without f s.top r is (variable_within (slice_get f.graph.regs r.0) f.graph.regs r.0 refl is) (fits_before p f s stands.of before) (Enter (variable.Reg r)) stands.node (is_first _ []) refl refl))
+      (record { registers = λ j w has. points_left j w has (same_or_not j r.0); arguments = (points_before p f s stands.of before).arguments })
+      before)
     where
       variable_within : (o : Option Register) (xs : List Register) (j : ℕ) → slice_get xs j ≡ o → MatchOption o ⊥ (λ (x : Register). (x.param ≡ false) × (x.name ≢ None)) → j < length xs
       variable_within None xs j same is = absurd is

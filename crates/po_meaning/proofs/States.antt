@@ -1,5 +1,5 @@
 -- A state of which only the running frame changes, not its slots, belongs where that frame does.
-use Rattle.std.specs.Prelude.{ℕ, zero, suc, ◌≡◌, List, [], ◌∷◌, All, Option, Some, slice_get}
+use Rattle.std.specs.Prelude.{ℕ, zero, suc, ◌≡◌, List, ◌∷◌, Option, Some, slice_get}
 use Rattle.std.proofs.Common.{refl, sym, ap, ◌∙◌, subst}
 use Rattle.std.proofs.lemmas.List.Elements.{All-cons}
 use Rattle.po_base.specs.declared.numbers.FunNo.{FunNo}
@@ -10,7 +10,7 @@ use Rattle.po_memory.specs.declared.block.Block.{Block}
 use Rattle.po_memory.specs.declared.frame.Frame.{Frame}
 use Rattle.po_meaning.specs.Operands.{block_held, slot_block}
 use Rattle.po_meaning.specs.States.{State, IsOf}
-use Rattle.po_meaning.specs.Belongs.{FrameBelongs, Wait, HasEntered, IsOfSlot, SlotsBelong, FramePoints, PointersBelong, Belongs}
+use Rattle.po_meaning.specs.Belongs.{FrameBelongs, Wait, HasEntered, IsOfSlot, SlotsBelong, FramePoints, Belongs}
 use Rattle.po_meaning.proofs.Places.{All-tail}
 
 abbrev pub state : Frame → List Frame → List Block → State
@@ -34,24 +34,24 @@ module _ (p : Project) (top now : Frame) (rest : List Frame) (m : List Block) (f
       slot_block frame s ≡ Some b → (c : Block) × (slice_get m b ≡ Some c) × IsOfSlot p slot b c
   blocks_kept before frame f zero s b slot here of there is =
       before.blocks top f 0 s b slot refl (of_same f (subst (λ (fr : Frame). IsOf p fr f) (some_same now frame here) of)) there
-          (sym (block_same s) ∙ subst (λ (fr : Frame). slot_block fr s ≡ Some b) (some_same now frame here) is)
+      (sym (block_same s) ∙ subst (λ (fr : Frame). slot_block fr s ≡ Some b) (some_same now frame here) is)
   blocks_kept before frame f (suc k) s b slot here of there is = before.blocks frame f (suc k) s b slot here of there is
 
   slots_kept : SlotsBelong p (state top rest m) → SlotsBelong p (state now rest m)
   slots_kept before = record {
-      blocks = blocks_kept before;
-      apart = λ k l s other b one two. before.apart k l s other b (entered_back k s b one) (entered_back l other b two)
-    }
+    blocks = blocks_kept before;
+    apart = λ k l s other b one two. before.apart k l s other b (entered_back k s b one) (entered_back l other b two);
+  }
 
   pub belongs_kept : FrameBelongs p now → FramePoints p.target m now → Belongs p (state top rest m) → Belongs p (state now rest m)
   belongs_kept frame points before = record {
-      each_frame = All-cons (FrameBelongs p) now rest frame (All-tail (FrameBelongs p) top rest before.each_frame);
-      waiting = subst (λ (n : FunNo). Wait p n rest) (sym function) before.waiting;
-      slots = slots_kept before.slots;
-      sizes = before.sizes;
-      statics = before.statics;
-      pointers = record {
-        frames_point = All-cons (FramePoints p.target m) now rest points (All-tail (FramePoints p.target m) top rest before.pointers.frames_point);
-        blocks_point = before.pointers.blocks_point
-      }
-    }
+    each_frame = All-cons (FrameBelongs p) now rest frame (All-tail (FrameBelongs p) top rest before.each_frame);
+    waiting = subst (λ (n : FunNo). Wait p n rest) (sym function) before.waiting;
+    slots = slots_kept before.slots;
+    sizes = before.sizes;
+    statics = before.statics;
+    pointers = record {
+      frames_point = All-cons (FramePoints p.target m) now rest points (All-tail (FramePoints p.target m) top rest before.pointers.frames_point);
+      blocks_point = before.pointers.blocks_point;
+    };
+  }
