@@ -52,12 +52,12 @@ goes_on-lower l m ts h (by_continuation c us u g) = by_continuation c us u (omeg
 goes_on-lower l m ts h (by_string text us) = by_string text us
 
 -- nothing goes on at a token that begins no continuation and is no string literal
-goes_on-none : (l : ℕ) (sign : Sign) (us ts : List Sign) → continuation_of sign.text ≡ None →
+pub goes_on-none : (l : ℕ) (sign : Sign) (us ts : List Sign) → continuation_of sign.text ≡ None →
     ((text : List ℕ) → sign ≡ string text → ⊥) → ts ≡ sign ∷ us → GoesOn l ts → ⊥
 goes_on-none l sign us ts none other w (by_continuation c vs u h) = opens_none c sign u none cc
 goes_on-none l sign us ts none other w (by_string text vs) = other text cc
 
-punct_string : (text other : List ℕ) → punct text ≡ string other → ⊥
+pub punct_string : (text other : List ℕ) → punct text ≡ string other → ⊥
 punct_string text other w = let kinds : k.Punct ≡ k.Str = ap (λ v. v.kind) w in cc
 
 -- nothing goes on at `)`

@@ -6,30 +6,17 @@
 #![tactic(auto)]
 
 mod continuation;
-#[cfg(test)]
-mod depth_tests;
 mod found;
 mod growing;
 mod leaves;
-#[cfg(test)]
-mod level_tests;
 mod levels;
-#[cfg(test)]
-mod literal_tests;
 mod literals;
 mod making;
 mod operators;
 mod places;
 mod read;
-#[cfg(test)]
-mod samples;
-#[cfg(test)]
-mod spelling;
-#[cfg(test)]
-mod tests;
-#[cfg(test)]
-mod type_tests;
 mod type_words;
 mod words;
 
-pub use read::{one_tree, read_exp};
+pub use levels::Level;
+pub use read::{one_tree, one_tree_before_an_end, read_exp, read_exp_at};

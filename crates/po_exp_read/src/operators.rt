@@ -9,7 +9,7 @@ ghost use Rattle.po_exp_read.specs.declared.continuation.Continuation.{Continuat
 ghost use Rattle.po_exp_read.specs.Continuing.{opens, IsUsed, level_of, least_before};
 
 use crate::continuation::Continuation;
-use crate::levels::{ASSIGNMENT, BOTH, CAST, CONDITIONAL, EITHER, POSTFIX, UNARY};
+use crate::levels::{ASSIGNMENT, CAST, CONDITIONAL, LOGICAL_AND, LOGICAL_OR, POSTFIX, UNARY};
 use po_base::{Op, Token, TokenKind};
 use po_tree::{Infix, Postfix, Prefix, Selector};
 
@@ -208,8 +208,8 @@ fn infix_level(o: Infix) -> u8
 {
     match o {
         Infix::Plain(op) => op_level_of(op),
-        Infix::And => BOTH,
-        Infix::Or => EITHER,
+        Infix::And => LOGICAL_AND,
+        Infix::Or => LOGICAL_OR,
         Infix::Set(_) => ASSIGNMENT,
         Infix::Comma => 0,
     }
@@ -262,7 +262,7 @@ pub(crate) fn least(c: Continuation) -> u8
 {
     match c {
         Continuation::Infix(o) => least_left_of(o),
-        Continuation::Question => EITHER,
+        Continuation::Question => LOGICAL_OR,
         _ => POSTFIX,
     }
 }

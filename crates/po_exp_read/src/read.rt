@@ -10,13 +10,13 @@ ghost use Rattle.po_exp_read.specs.Continuing.{tail_height};
 ghost use Rattle.po_exp_read.specs.TypeWords.{Begins, StartsType};
 ghost use Rattle.po_exp_read.specs.Reading.{Reads, Follows, Arguments, Items, SizesRead};
 ghost use Rattle.po_exp_read.specs.Places.{signs_from, Finds, operand_height, list_height, sizes_height, StandsAsOperand, StandsClosed, StandsEnclosed, Closes};
-ghost use Rattle.po_exp_read.specs.Longest.{signs_between, IsLongest, NothingStands, StandsBefore};
+ghost use Rattle.po_exp_read.specs.Longest.{signs_between, least_of, IsEnd, IsLongest, IsLongestAt, NothingStands, NothingStandsAt, StandsAt, StandsBefore};
 
 use crate::continuation::Continuation;
 use crate::found::{Found, Leveled, Tail};
 use crate::growing::grow;
 use crate::leaves::{continuation_at, leaf_at, selected_at, strings_at};
-use crate::levels::{ASSIGNMENT, CAST, CONDITIONAL};
+use crate::levels::{ASSIGNMENT, CAST, CONDITIONAL, Level};
 use crate::making::{
     as_arguments, as_choice, as_right, as_subscript, convert, enclose, measure, named, precede,
     unleveled,
@@ -459,7 +459,37 @@ pub fn read_exp(
     }
 }
 
+/// The longest well-formed expression of this level or a higher one that stands in `tokens` from the place `from` on and ends
+/// at `to` or before it, and the place behind it; None exactly where none stands there. As `read_exp` otherwise.
+pub fn read_exp_at(
+    alloc: Global,
+    tokens: &Tokens,
+    from: u32,
+    to: u32,
+    names: &Names,
+    level: Level,
+) -> Result<Option<(Exp, u32)>, Memory>
+    ensures found { IfOk result (λ found. IfSome found (λ p. IsLongestAt (least_of level) names.now.typedefs (signs_between tokens.now.list from to) p.0 (signs_between tokens.now.list p.1 to))) }
+    ensures within { IfOk result (λ found. IfSome found (λ p. (from ≤ p.1) × (p.1 ≤ to) × (p.1 ≤ length tokens.now.list))) }
+    ensures none { IfOk result (λ found. IfNone found (NothingStandsAt (least_of level) names.now.typedefs (signs_between tokens.now.list from to))) }
+{
+    let all = tokens.list.as_slice();
+    let end = (to as usize).min(all.len());
+    let range = &all[..end];
+    let least = level.least();
+    match expression(alloc, range, names, from as usize, least, MOST_NESTED)? {
+        Some(found) => Ok(Some((found.value, found.end as u32))),
+        None => Ok(None),
+    }
+}
+
 /// Tokens are those of one well-formed expression at most, under the same typedef names.
 pub fn one_tree()
     ensures { (types : Sequence (Sequence ℕ)) (signs : Sequence Sign) (x y : Tree) → StandsBefore types signs x [] → StandsBefore types signs y [] → x ≡ y }
+{}
+
+/// Of two expressions that are no comma expressions and stand at the front of the same tokens, each with an end behind it, as a
+/// comma or a closing bracket, one is the other.
+pub fn one_tree_before_an_end()
+    ensures { (types : Sequence (Sequence ℕ)) (least : ℕ) (signs us vs : Sequence Sign) (x y : Tree) (a b : Sign) → 1 ≤ least → IsEnd a → IsEnd b → StandsAt least types signs x (a ∷ us) → StandsAt least types signs y (b ∷ vs) → (x ≡ y) × (a ∷ us ≡ b ∷ vs) }
 {}

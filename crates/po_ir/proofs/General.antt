@@ -1,6 +1,6 @@
 -- Facts on lists that speak of no graph.
 use Rattle.std.proofs.Common.{◌≡◌, ℕ, zero, suc, ◌+◌, ◌<◌, List, [], ◌∷◌, ◌++◌, length, map, get_or, take, refl, ◌⊎◌, inl, inr, ap, sym, ◌∙◌, append_assoc, arith, subst, Bool, true, false, cond}
-use Rattle.std.specs.Prelude.{Some, Result, Ok, Err, IfOk, slice_get, Contains}
+use Rattle.std.specs.Prelude.{Some, Result, Ok, Err, IfOk, OnOk, slice_get, Contains}
 use Rattle.std.proofs.lemmas.List.Elements.{Contains-append_left, Contains-append_right, Contains-append_cases, Contains-push_cases}
 use Rattle.std.proofs.lemmas.List.{append-nil}
 use Rattle.po_ir.specs.General.{each_from}
@@ -106,3 +106,8 @@ from_each f n (z ∷ zs) y c =
 pub alone : {X : Type 0} (b : Bool) (x y : X) → Contains (cond b (x ∷ []) []) y → (b ≡ true) × (x ≡ y)
 alone true x y c = elim (Contains-push_cases [] x y c) [ inl h ↦ absurd (let l = h.1 in omega arith) | inr e ↦ (refl, e) ]
 alone false x y c = absurd (let h = c.1 in omega arith)
+
+-- what follows where there is a value
+pub on_ok-map : {T E : Type 0} {P Q : Type 0} (r : Result T E) → (P → Q) → OnOk r P → OnOk r Q
+on_ok-map (Ok x) f h = f h
+on_ok-map (Err e) f h = tt

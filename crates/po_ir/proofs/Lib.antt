@@ -6,3 +6,11 @@ mod Paired
 mod Within
 mod Refused
 mod Sites
+mod Named
+mod Places
+mod Noted
+mod OneMore
+mod Owned
+mod Joining
+mod Carried
+mod OneLinked

@@ -1,10 +1,8 @@
 -- The listed call sites are the calls.
-use Rattle.std.proofs.Common.{◌≡◌, ℕ, ◌+◌, List, Bool, true, cond, [], ◌∷◌, refl, ap, sym, ◌∙◌, subst, arith}
+use Rattle.std.proofs.Common.{◌≡◌, ◌+◌, cond, [], ◌∷◌, refl, ap, sym, subst, arith}
 use Rattle.std.specs.Prelude.{Some, Contains, slice_get}
 use Rattle.po_base.specs.declared.numbers.FunNo.{FunNo}
 use Rattle.po_base.specs.declared.numbers.NodeNo.{NodeNo}
-use Rattle.po_ir.specs.declared.graph.Node.{Node}
-use Rattle.po_ir.specs.declared.project.Function.{Function}
 use Rattle.po_ir.specs.declared.project.Project.{Project}
 use Rattle.po_ir.specs.Calls.{is_call_of, node_call, function_calls, call_sites, CallsAt, SitesAreCalls}
 use Rattle.po_ir.proofs.General.{into_each, from_each, alone}

@@ -10,3 +10,9 @@ pub mod Paired
 pub mod Types
 pub mod Whole
 pub mod Linking
+pub mod Names
+pub mod Joined
+pub mod Noted
+pub mod Objects
+pub mod Scoped
+pub mod Parted

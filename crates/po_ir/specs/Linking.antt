@@ -1,8 +1,10 @@
 -- What files say of external names, and where that can't be joined.
-use Rattle.std.specs.Prelude.{ℕ, ◌*◌, ◌^◌, ◌≡◌, ◌≢◌, ◌<◌, ◌≤◌, ◌++◌, ◌∷◌, ◌⊎◌, List, false, MatchOption, Contains, codes, length, sum_by, slice_get}
+use Rattle.std.specs.Prelude.{ℕ, ◌*◌, ◌^◌, ◌≡◌, ◌≢◌, ◌<◌, ◌≤◌, ◌++◌, ◌∷◌, ◌⊎◌, List, MatchOption, Contains, codes, length, sum_by, slice_get, [], Bool, not, ◌&&◌, cond, bytes_eq, flat_map, find, Option, Some, option_map}
 use Rattle.std.specs.Ordering.{nat_cmp}
 use Rattle.std.specs.Cmp.Lexicographic.{slice_cmp}
 use Rattle.std.specs.declared.cmp.Ordering.TheVariants.{Greater}
+use Rattle.po_ir.specs.declared.project.CTypeText.{CTypeText}
+use Rattle.po_ir.specs.declared.project.Global.{Global}
 use Rattle.po_ir.specs.declared.project.Function.{Function}
 use Rattle.po_ir.specs.declared.unit.Unit.{Unit as FileUnit}
 use Rattle.po_ir.specs.declared.link_fail.LinkFail.{LinkFail}
@@ -12,13 +14,32 @@ use Rattle.po_ir.specs.declared.link_fail.LinkFail.TheVariants.{TwoBodies, Clash
 abbrev pub InFile : List FileUnit → ℕ → (FileUnit → Type 0) → Type 0
 InFile units file P = MatchOption (slice_get units file) ⊥ P
 
--- the file gives the external name a body: one of its functions has the name and is seen by other files, read or not
-abbrev pub GivesBody : List ℕ → FileUnit → Type 0
-GivesBody name u = (f : Function) × Contains u.functions f × (f.name ≡ name) × (f.local ≡ false)
+abbrev pub function_body : Function → List (List ℕ)
+function_body f = cond f.local [] (f.name ∷ [])
 
--- the external name has this type at the end of the file
+abbrev pub global_body : Global → List (List ℕ)
+global_body g = cond (not g.local && g.defined) (g.name ∷ []) []
+
+-- the external names to which the file gives a body: those of its functions that other files see, read or not, and of its globals
+-- that they see and that have an initialiser (6.9p5)
+abbrev pub bodies : FileUnit → List (List ℕ)
+bodies u = flat_map function_body u.functions ++ flat_map global_body u.globals
+
+abbrev pub GivesBody : List ℕ → FileUnit → Type 0
+GivesBody name u = Contains (bodies u) name
+
+abbrev pub declares : List ℕ → List ℕ × CTypeText → Bool
+declares name d = bytes_eq d.0 name
+
+abbrev pub spelling_of : List ℕ × CTypeText → List ℕ
+spelling_of d = d.1.text
+
+-- the type that the external name has at the end of the file
+abbrev pub type_in : List ℕ → List (List ℕ × CTypeText) → Option (List ℕ)
+type_in name declared = option_map spelling_of (find (declares name) declared)
+
 abbrev pub HasType : List ℕ → List ℕ → FileUnit → Type 0
-HasType name type u = Contains u.declared (name, record { text = type })
+HasType name type u = type_in name u.declared ≡ Some type
 
 -- the first spelling is that of an array without a size, and what follows the first `]` is the same in both
 abbrev pub IsSizeless : List ℕ → List ℕ → Type 0

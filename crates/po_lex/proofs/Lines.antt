@@ -4,10 +4,11 @@ use Rattle.std.specs.Prelude.{◌==◌, ◌&&◌, ◌||◌}
 use Rattle.std.proofs.lemmas.Bool.{eqb-true}
 use Rattle.std.proofs.lemmas.List.Recursion.{is_count_by}
 use Rattle.std.proofs.lemmas.List.{take_more, take-append-drop}
-use Rattle.po_lex.specs.Bytes.{newlines, is_gap}
+use Rattle.po_lex.specs.Bytes.{newlines, is_gap, is_space}
 use Rattle.po_lex.specs.Rows.{goes_on, behind, front, skip}
 use Rattle.po_lex.specs.Leads.{beginning, lead_of, opening, row_of, closing, lines}
-use Rattle.po_lex.specs.Division.{freshly}
+use Rattle.po_lex.specs.Division.{freshly, Stands}
+use Rattle.po_lex.specs.declared.effect.Effect.TheVariants as e
 use Rattle.po_lex.specs.declared.row.Row.{Row}
 use Rattle.po_lex.specs.declared.row.Row.TheVariants as r
 use Rattle.po_lex.specs.declared.lead.Lead.{Lead}
@@ -88,3 +89,24 @@ lines_so l.Joined bytes end q within ended = refl
 lines_so l.Comment bytes end q within ended = refl
 lines_so l.Remark bytes end q within ended = refl
 lines_so l.Sign bytes end q within ended = refl
+
+skip_nothing : (xs : List ℕ) → skip r.Nothing 0 xs ≡ xs
+skip_nothing [] = refl
+skip_nothing (c ∷ cs) = refl
+
+-- a blank stands by itself
+pub blank_stands : (fresh : Bool) (bytes : List ℕ) → 0 < length bytes → ((get_or bytes 0 0 == 10) || is_space (get_or bytes 0 0)) ≡ true →
+    Stands fresh bytes (record { lead = l.Blank; text = take 1 bytes; effect = e.Silent }) (drop 1 bytes)
+blank_stands fresh [] some h = absurd (omega arith)
+blank_stands fresh (c ∷ cs) some h = record {
+  whole = refl;
+  begun = sym (rw h refl);
+  some = omega arith;
+  within = omega arith;
+  ended = skip_nothing cs;
+  said = refl;
+}
+
+pub blank_lines : (bytes : List ℕ) → 0 < length bytes → newlines (get_or bytes 0 0 ∷ []) ≡ newlines (take 1 bytes)
+blank_lines [] some = absurd (omega arith)
+blank_lines (c ∷ cs) some = refl

@@ -12,13 +12,9 @@ mod lead;
 mod lexing;
 mod part;
 mod place;
-#[cfg(test)]
-mod preprocessed;
 mod row;
 mod shape;
 mod sign;
-#[cfg(test)]
-mod tests;
 mod walk;
 
 pub use effect::Effect;

@@ -1,10 +1,11 @@
-ghost use Rattle.std.specs.Prelude.{ℕ, ◌≡◌, ◌+◌, ◌-◌, ◌<◌, ◌≤◌, ◌++◌, ◌^◌, length, take, drop, slice_index, IfOk, IfSome, IfNone, IsTrue, false, List as Bytes, option_to_list};
-ghost use Rattle.po_lex.specs.Bytes.{newlines};
+ghost use Rattle.std.specs.Prelude.{ℕ, ◌≡◌, ◌+◌, ◌-◌, ◌<◌, ◌≤◌, ◌==◌, ◌||◌, ◌∷◌, [], ◌++◌, ◌^◌, length, take, drop, slice_index, IfOk, IfSome, IfNone, IsTrue, false, List as Bytes, option_to_list};
+ghost use Rattle.po_lex.specs.Bytes.{newlines, is_space};
 ghost use Rattle.po_lex.specs.Leads.{lead_of, opening, row_of, closing, kind_of, lines};
 ghost use Rattle.po_lex.specs.Rows.{skip};
 ghost use Rattle.po_lex.specs.Division.{IsSaid, Stands, NoneStands};
 ghost use Rattle.po_lex.specs.declared.effect.Effect.{Effect as Said};
 
+use crate::bytes::is_space;
 use crate::directive::says;
 use crate::effect::Effect;
 use crate::lead::{Lead, beginning};
@@ -214,6 +215,25 @@ impl Lead {
     }
 }
 
+/// Whether a byte is a blank by itself.
+fn is_blank(byte: u8) -> bool
+    ensures { result ≡ (byte == 10) || is_space byte }
+{
+    byte == b'\n' || is_space(byte)
+}
+
+/// The part that this blank is.
+fn blank(byte: u8) -> Standing
+    ensures { result ≡ record { lead = Lead.Blank; end = 1; lines = newlines (byte ∷ []); effect = Effect.Silent } }
+{
+    Standing {
+        lead: Lead::Blank,
+        end: 1,
+        lines: newlines(&[byte]),
+        effect: Effect::Silent,
+    }
+}
+
 /// The part that begins the bytes; None where no part stands there. Time linear in its bytes.
 pub(crate) fn part_of(alloc: Global, bytes: &[u8], fresh: bool) -> Result<Option<Standing>, Memory>
     requires { length bytes.now < 2 ^ 32 }
@@ -222,6 +242,12 @@ pub(crate) fn part_of(alloc: Global, bytes: &[u8], fresh: bool) -> Result<Option
     ensures lines { IfOk result (λ found. IfSome found (λ p. p.lines ≡ newlines (take p.end bytes.now))) }
     ensures none { IfOk result (λ found. IfNone found (NoneStands fresh bytes.now)) }
 {
+    if bytes.len() > 0 {
+        let first = bytes[0];
+        if is_blank(first) {
+            return Ok(Some(blank(first)));
+        }
+    }
     let lead = lead_of(bytes);
     let end = match part_end(bytes, lead) {
         Some(end) => end,

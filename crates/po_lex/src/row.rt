@@ -63,7 +63,8 @@ fn behind(row: Row, before: u8, byte: u8) -> u8
     }
 }
 
-/// Where the longest row from `at` on ends. Time linear in its bytes. Each kind of row has its own loop once it is compiled.
+/// Where the longest row from `at` on ends. Time linear in its bytes. The rows that most bytes stand
+/// in have loops of their own.
 pub(crate) fn row_end(bytes: &[u8], at: usize, row: Row) -> usize
     requires { at ≤ length bytes.now }
     ensures after { at ≤ result }
@@ -72,15 +73,10 @@ pub(crate) fn row_end(bytes: &[u8], at: usize, row: Row) -> usize
     ensures rest { drop result bytes.now ≡ skip row (0) (drop at bytes.now) }
 {
     match row {
-        Row::Nothing => end_of(bytes, at, Row::Nothing),
-        Row::Word => end_of(bytes, at, Row::Word),
-        Row::Number => end_of(bytes, at, Row::Number),
-        Row::Line => end_of(bytes, at, Row::Line),
-        Row::Comment => end_of(bytes, at, Row::Comment),
-        Row::Literal(quote) => end_of(bytes, at, Row::Literal(quote)),
-        Row::Spaces => end_of(bytes, at, Row::Spaces),
-        Row::Digits => end_of(bytes, at, Row::Digits),
-        Row::Flags => end_of(bytes, at, Row::Flags),
+        Row::Word => word_end(bytes, at),
+        Row::Line => line_end(bytes, at),
+        Row::Literal(quote) => literal_end(bytes, at, quote),
+        _ => end_of(bytes, at, row),
     }
 }
 
@@ -99,6 +95,66 @@ fn end_of(bytes: &[u8], at: usize, row: Row) -> usize
             return end;
         }
         before = behind(row, before, bytes[end]);
+        end += 1;
+    }
+    end
+}
+
+/// Where the bytes of a word from `at` on end. Time linear in them.
+fn word_end(bytes: &[u8], at: usize) -> usize
+    requires { at ≤ length bytes.now }
+    ensures after { at ≤ result }
+    ensures within { result ≤ length bytes.now }
+    ensures front { take (result - at) (drop at bytes.now) ≡ front Row.Word (0) (drop at bytes.now) }
+    ensures rest { drop result bytes.now ≡ skip Row.Word (0) (drop at bytes.now) }
+{
+    let mut end = at;
+    let mut before = 0;
+    while end < bytes.len() {
+        if !goes_on(Row::Word, before, bytes[end]) {
+            return end;
+        }
+        before = behind(Row::Word, before, bytes[end]);
+        end += 1;
+    }
+    end
+}
+
+/// Where the line ends that goes on at `at`. Time linear in its bytes.
+fn line_end(bytes: &[u8], at: usize) -> usize
+    requires { at ≤ length bytes.now }
+    ensures after { at ≤ result }
+    ensures within { result ≤ length bytes.now }
+    ensures front { take (result - at) (drop at bytes.now) ≡ front Row.Line (0) (drop at bytes.now) }
+    ensures rest { drop result bytes.now ≡ skip Row.Line (0) (drop at bytes.now) }
+{
+    let mut end = at;
+    let mut before = 0;
+    while end < bytes.len() {
+        if !goes_on(Row::Line, before, bytes[end]) {
+            return end;
+        }
+        before = behind(Row::Line, before, bytes[end]);
+        end += 1;
+    }
+    end
+}
+
+/// Where the literal ends that goes on at `at`. Time linear in its bytes.
+fn literal_end(bytes: &[u8], at: usize, quote: u8) -> usize
+    requires { at ≤ length bytes.now }
+    ensures after { at ≤ result }
+    ensures within { result ≤ length bytes.now }
+    ensures front { take (result - at) (drop at bytes.now) ≡ front (Row.Literal quote) (0) (drop at bytes.now) }
+    ensures rest { drop result bytes.now ≡ skip (Row.Literal quote) (0) (drop at bytes.now) }
+{
+    let mut end = at;
+    let mut before = 0;
+    while end < bytes.len() {
+        if !goes_on(Row::Literal(quote), before, bytes[end]) {
+            return end;
+        }
+        before = behind(Row::Literal(quote), before, bytes[end]);
         end += 1;
     }
     end

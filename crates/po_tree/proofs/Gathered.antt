@@ -95,7 +95,7 @@ body_enumerates tag0 ms0 x s q (in_member tag ms m s' c d w) =
 pub enumerates_body : (tag : Option (List ℕ)) (ms : List Member) (x : List ℕ) (s : Specifier) → s ≡ sp.Struct tag (Some ms) → Somewhere (Enumerates x) (in_members ms) → Enumerates x s
 enumerates_body tag ms x s q (s', c, w) = let m = to_member ms s' c in subst (Enumerates x) (sym q) (in_member tag ms m.0 s' m.1 m.2 w)
 
-struct_enumerates_none : {tag : Option (List ℕ)} {x : List ℕ} (s : Specifier) → s ≡ sp.Struct tag None → Enumerates x s → ⊥
+pub struct_enumerates_none : {tag : Option (List ℕ)} {x : List ℕ} (s : Specifier) → s ≡ sp.Struct tag None → Enumerates x s → ⊥
 struct_enumerates_none s q (listed tag items more c) = cc
 struct_enumerates_none s q (in_member tag ms m s' c d w) = cc
 
@@ -125,12 +125,12 @@ struct_tag_adds tag s a tags q t = record {
 }
 
 -- enumerations
-enum_enumerates : (tag : Option (List ℕ)) (items : List (List ℕ × Option Exp)) (more : Bool) (x : List ℕ) (s : Specifier) → s ≡ sp.Enum tag (Some items) more →
+pub enum_enumerates : (tag : Option (List ℕ)) (items : List (List ℕ × Option Exp)) (more : Bool) (x : List ℕ) (s : Specifier) → s ≡ sp.Enum tag (Some items) more →
     Enumerates x s → Contains (map (λ item. item.0) items) x
 enum_enumerates tag0 items0 more0 x s q (listed tag items more c) = let same = same_items tag tag0 items items0 more more0 q in subst (λ v. Contains (map (λ item. item.0) v) x) same c
 enum_enumerates tag0 items0 more0 x s q (in_member tag ms m s' c d w) = absurd cc
 
-enum_enumerates_none : {tag : Option (List ℕ)} {more : Bool} {x : List ℕ} (s : Specifier) → s ≡ sp.Enum tag None more → Enumerates x s → ⊥
+pub enum_enumerates_none : {tag : Option (List ℕ)} {more : Bool} {x : List ℕ} (s : Specifier) → s ≡ sp.Enum tag None more → Enumerates x s → ⊥
 enum_enumerates_none s q (listed tag items more c) = cc
 enum_enumerates_none s q (in_member tag ms m s' c d w) = cc
 

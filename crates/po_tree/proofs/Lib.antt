@@ -7,3 +7,4 @@ pub mod Behind
 pub mod Weights
 pub mod Thin
 pub mod Moves
+pub mod Threaded

@@ -5,6 +5,7 @@
 mod declaration;
 mod expression;
 mod function;
+mod laws;
 mod letting;
 mod names;
 mod operator;
@@ -13,6 +14,7 @@ mod statement;
 pub use declaration::{Decl, Init};
 pub use expression::{Declarator, Exp, Member, Param, Specifier, Suffix, TypeName};
 pub use function::FunTree;
+pub use laws::names_behind;
 pub use names::Names;
 pub use operator::{Infix, Postfix, Prefix, Selector};
 pub use statement::{First, Stmt};

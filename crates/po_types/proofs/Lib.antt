@@ -2,3 +2,4 @@ mod Large
 mod OneSpelling
 mod OneLayout
 mod Promoting
+mod Lays

@@ -13,7 +13,7 @@ one_next align n m k p q = let a = next_below align n m k p q in let b = next_be
 lie_along : (x : Extent) (xs : List Extent) (offsets : List ℕ) (end m k : ℕ) → m ≡ k → Lie (m + x.size) xs offsets end → Lie (k + x.size) xs offsets end
 lie_along x xs offsets end m k q l = subst (λ o. Lie (o + x.size) xs offsets end) q l
 
-one_lie : {at : ℕ} {xs : List Extent} {offsets others : List ℕ} {end fin : ℕ} → Lie at xs offsets end → Lie at xs others fin → (offsets ≡ others) × (end ≡ fin)
+pub one_lie : {at : ℕ} {xs : List Extent} {offsets others : List ℕ} {end fin : ℕ} → Lie at xs offsets end → Lie at xs others fin → (offsets ≡ others) × (end ≡ fin)
 one_lie (no_more end) (no_more _) = (refl, refl)
 one_lie (member at o end x xs offsets n l) (member _ p fin _ _ others m k) =
     let q = one_next x.align at o p n m in

@@ -1,7 +1,9 @@
 -- How the members of a struct lie (C99 6.7.2.1p12 to p15).
-use Rattle.std.specs.Prelude.{ℕ, ◌+◌, ◌*◌, ◌≤◌, max, ◌≡◌, List, [], ◌∷◌}
+use Rattle.std.specs.Prelude.{ℕ, ◌+◌, ◌*◌, ◌≤◌, max, ◌≡◌, List, [], ◌∷◌, Some, None}
+use Rattle.po_arith.specs.declared.target.Target.{Target}
 use Rattle.po_types.specs.declared.layout.Extent.{Extent}
 use Rattle.po_types.specs.declared.layout.Layout.{Layout}
+use Rattle.po_types.specs.Types.{as_object}
 
 -- m is the least multiple of the alignment that is at least n
 pub record IsNext (align n m : ℕ) : Type 0 where
@@ -26,3 +28,12 @@ pub record IsLayout (members : List Extent) (layout : Layout) : Type 0 where
   pub lie : Lie 0 members layout.offsets end
   pub greatest : layout.align ≡ greatest_align members
   pub size : IsNext layout.align end layout.size
+
+-- a layout that an object may have
+pub record HasLayout (target : Target) (members : List Extent) (layout : Layout) : Type 0 where
+  pub laid : IsLayout members layout
+  pub object : as_object target layout.size ≡ Some layout.size
+
+-- the struct would have no bytes, or more than an object may have
+pub record HasNoLayout (target : Target) (members : List Extent) : Type 0 where
+  pub none : (layout : Layout) → IsLayout members layout → as_object target layout.size ≡ None

@@ -9,6 +9,7 @@ mod format;
 mod integers;
 mod kinds;
 mod laws;
+mod laying;
 mod layout;
 mod shared;
 mod sizes;
@@ -24,6 +25,7 @@ pub use integers::{
 };
 pub use kinds::{elements, integer, is_void, pointee, signature, structure};
 pub use laws::{common_type_is_symmetric, layout_is_one, promotion_keeps_numbers, spelling_is_one};
+pub use laying::lay_out;
 pub use layout::{Extent, Layout};
 pub use shared::Shared;
 pub use sizes::{align_of, as_object, layout_of, size_of};

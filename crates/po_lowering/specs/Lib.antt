@@ -1,0 +1,17 @@
+pub mod Places
+pub mod Typed
+pub mod Types
+pub mod Temporaries
+pub mod Conversions
+pub mod Naming
+pub mod Addressing
+pub mod Storage
+pub mod Spelling
+pub mod Forms
+pub mod Expressions
+pub mod Initialisers
+pub mod Completion
+pub mod Blocks
+pub mod Statements
+pub mod Functions
+pub mod Same

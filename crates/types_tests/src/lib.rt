@@ -1,0 +1,7 @@
+//! Tests of the types of C (`po_types`).
+#![tactic(auto)]
+
+#[cfg(test)]
+mod conversions;
+#[cfg(test)]
+mod types;
