@@ -1,5 +1,5 @@
 -- A library that is asked for the starts of heap blocks alone.
-use Rattle.std.specs.Prelude.{List, map}
+use Rattle.std.specs.Prelude.{map}
 use Rattle.po_base.specs.declared.operand.Opnd.{Opnd}
 use Rattle.po_pred.specs.declared.pred.Pred.{Pred}
 use Rattle.po_pred.specs.declared.pred.Pred.TheVariants.{HeapStart}

@@ -1,5 +1,5 @@
 -- A predicate on its parameters at the entry of a called function.
-use Rattle.std.specs.Prelude.{ℕ, ◌≡◌, ◌≢◌, ◌⊎◌, ◌↔◌, false, true, ℤ, pos, List, [], ◌∷◌, Option, Some, None, MatchOption, map, take, slice_get}
+use Rattle.std.specs.Prelude.{ℕ, ◌≡◌, ◌↔◌, false, List, [], ◌∷◌, Option, Some, MatchOption, map, take, slice_get}
 use Rattle.std.proofs.Common.{refl, sym, ap, ◌∙◌, subst, inl, inr}
 use Rattle.std.specs.List.{AllZip}
 use Rattle.std.proofs.Math.Seq.{take-nil}
@@ -25,8 +25,7 @@ use Rattle.po_memory.specs.Holding.{Holds}
 use Rattle.po_memory.specs.Passing.{HasValue, SubstKeepsHolds}
 use Rattle.po_pred.specs.Subst.{put_in}
 use Rattle.po_meaning.specs.Operands.{value_at, ArePassed}
-use Rattle.po_meaning.specs.States.{State, StandsAt, start_frame}
-use Rattle.po_meaning.specs.Steps.{Enters}
+use Rattle.po_meaning.specs.States.{StandsAt}
 use Rattle.po_meaning.specs.Laws.{EntryKeepsHolds}
 use Rattle.po_meaning.proofs.Places.{at_place}
 

@@ -1,10 +1,8 @@
 -- One obligation at most is violated first.
-use Rattle.std.specs.Prelude.{ℕ, ◌≡◌, ◌<◌, ◌⊎◌, List, Option, Some, slice_get}
-use Rattle.std.proofs.Common.{refl, sym, ap, ◌∙◌, subst, arith, inl, inr}
+use Rattle.std.specs.Prelude.{ℕ, ◌≡◌, ◌<◌, ◌⊎◌, List, Some, slice_get}
+use Rattle.std.proofs.Common.{sym, ap, subst, inl, inr}
 use Rattle.std.proofs.lemmas.Bool.{cases_order}
-use Rattle.po_core.specs.declared.obl.Obl.{Obl}
-use Rattle.po_pred.specs.declared.pred.Pred.{Pred}
-use Rattle.po_meaning.specs.Checks.{Asked, asked, FirstViolated}
+use Rattle.po_meaning.specs.Checks.{Asked, asked}
 use Rattle.po_meaning.specs.Laws.{OneIsFirst, NoneIsFirst}
 use Rattle.po_meaning.proofs.Places.{same_item}
 

@@ -1,7 +1,7 @@
 -- What holds of a frame still holds of it at the node after a step: where a register gets a value, where one loses it, and where none
 -- changes.
-use Rattle.std.specs.Prelude.{ℕ, zero, suc, ◌+◌, ◌≡◌, ◌≢◌, ◌<◌, ◌⊎◌, true, false, List, [], ◌∷◌, Option, Some, None, MatchOption, Contains, length, slice_get, slice_set}
-use Rattle.std.proofs.Common.{refl, sym, ap, ◌∙◌, subst, arith, inl, inr}
+use Rattle.std.specs.Prelude.{ℕ, suc, ◌+◌, ◌≡◌, ◌≢◌, ◌<◌, ◌⊎◌, true, false, ◌∷◌, Option, Some, None, MatchOption, Contains, length, slice_get}
+use Rattle.std.proofs.Common.{sym, ap, ◌∙◌, subst, arith, inl, inr}
 use Rattle.std.proofs.lemmas.List.{length-set}
 use Rattle.std.proofs.lemmas.Option.{slice_get_within}
 use Rattle.po_base.specs.declared.numbers.NodeNo.{NodeNo}
@@ -13,13 +13,13 @@ use Rattle.po_ir.specs.declared.instr.Instr.{Instr}
 use Rattle.po_ir.specs.declared.project.Function.{Function}
 use Rattle.po_ir.specs.declared.project.Project.{Project}
 use Rattle.po_ir.specs.Instructions.{written, entered, followers}
-use Rattle.po_ir.specs.Paths.{NodeAt, Path, step, Reachable}
+use Rattle.po_ir.specs.Paths.{NodeAt, step, Reachable}
 use Rattle.po_ir.specs.Whole.{IsTemporary, IsVariable}
 use Rattle.po_memory.specs.declared.frame.Frame.{Frame}
 use Rattle.po_memory.specs.declared.value.Value.{Value}
 use Rattle.po_memory.specs.Bytes.{LiesIn}
 use Rattle.po_memory.specs.Values.{held, register_value}
-use Rattle.po_meaning.specs.Operands.{slot_block, at_node, onward, put, without_value}
+use Rattle.po_meaning.specs.Operands.{at_node, put, without_value}
 use Rattle.po_meaning.specs.States.{IsOf}
 use Rattle.po_meaning.specs.Needs.{NeedsRegister, NeedsSlot}
 use Rattle.po_meaning.specs.Belongs.{HasPlace, HasTypes, HasSome, HasValues, HasSlots, FrameBelongs}

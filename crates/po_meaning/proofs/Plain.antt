@@ -1,6 +1,6 @@
 -- A step of a plain instruction leads from a state that belongs to a project to one that belongs to it.
-use Rattle.std.specs.Prelude.{ℕ, ◌+◌, ◌*◌, ◌≡◌, ◌≢◌, ◌<◌, ◌≤◌, ◌⊎◌, true, false, not, cond, ℤ, pos, List, [], ◌∷◌, All, Bool, Option, Some, None, MatchOption, Contains, length, slice_get}
-use Rattle.std.proofs.Common.{refl, sym, ap, ◌∙◌, subst, arith, inl, inr}
+use Rattle.std.specs.Prelude.{ℕ, ◌+◌, ◌*◌, ◌≡◌, ◌≢◌, ◌<◌, ◌⊎◌, true, false, cond, ℤ, pos, List, [], ◌∷◌, All, Bool, Option, Some, None, MatchOption, Contains, length, slice_get}
+use Rattle.std.proofs.Common.{refl, sym, ◌∙◌, subst, arith, inl, inr}
 use Rattle.std.proofs.lemmas.Int.{ints}
 use Rattle.std.proofs.lemmas.Option.{slice_get_within}
 use Rattle.po_base.specs.declared.numbers.GlobalNo.{GlobalNo}
@@ -16,7 +16,6 @@ use Rattle.po_base.specs.declared.operand.Opnd.{Opnd}
 use Rattle.po_base.specs.declared.operand.Opnd.TheVariants as operand
 use Rattle.po_arith.specs.declared.int_type.IntType.{IntType}
 use Rattle.po_arith.specs.Types.{IsIntType}
-use Rattle.po_interval.specs.Results.{truth}
 use Rattle.po_interval.specs.Gathering.{BinMembersCover, ResultsAreOfType}
 use Rattle.po_ir.specs.declared.graph.Reg.{Reg as Register}
 use Rattle.po_ir.specs.declared.graph.Node.{Node}
@@ -34,17 +33,17 @@ use Rattle.po_ir.specs.Whole.{Signature, IsWhole, FunctionFits, InstructionFits}
 use Rattle.po_memory.specs.declared.block.Block.{Block}
 use Rattle.po_memory.specs.declared.frame.Frame.{Frame}
 use Rattle.po_memory.specs.declared.value.Value.{Value}
-use Rattle.po_memory.specs.declared.value.Value.TheVariants.{Number, Null, Pointer, Wild}
+use Rattle.po_memory.specs.declared.value.Value.TheVariants.{Number, Null, Pointer}
 use Rattle.po_memory.specs.Blocks.{IsOfWidth}
 use Rattle.po_memory.specs.Bytes.{LiesIn}
-use Rattle.po_memory.specs.Values.{held, register_value}
+use Rattle.po_memory.specs.Values.{register_value}
 use Rattle.po_gen.specs.IntTypes.{IsTypeOfTarget, types_in, HasTypesOfTarget, AreTypesOfTarget}
-use Rattle.po_meaning.specs.Operands.{pointer_value, as_value, block_held, at_node, put, without_value}
+use Rattle.po_meaning.specs.Operands.{pointer_value, as_value, at_node, put, without_value}
 use Rattle.po_meaning.specs.States.{State, IsOf, StandsAt}
-use Rattle.po_meaning.specs.Local.{Tests, Computes, Converts, IsDistance, Local}
+use Rattle.po_meaning.specs.Local.{IsDistance, Local}
 use Rattle.po_meaning.specs.Belongs.{FrameBelongs, PointsThere, FramePoints, Belongs}
-use Rattle.po_meaning.specs.Laws.{IsPlain, PlainStepsStay}
-use Rattle.po_meaning.proofs.Places.{at_place, same_item, set_same, set_other, same_or_not, item_at, held_within, is_first, is_second, All-head}
+use Rattle.po_meaning.specs.Laws.{PlainStepsStay}
+use Rattle.po_meaning.proofs.Places.{at_place, same_item, same_or_not, item_at, held_within, is_first, is_second, All-head}
 use Rattle.po_meaning.proofs.Frames.{Fits, fits_of, belongs_of, fits_at, fits_put, within, within_regs, fits_without, put_value, put_others, no_value, without_others, some_not_none}
 use Rattle.po_meaning.proofs.States.{state, belongs_kept}
 use Rattle.po_meaning.proofs.Results.{kept_value, unary_lies, conv_lies, number_fits, comparison_fits}

@@ -1,13 +1,12 @@
 -- What operators give lies in the type of the register that gets it.
-use Rattle.std.specs.Prelude.{◌≡◌, ◌⊎◌, ℤ, pos, int_lt, Bool, true, false, cond, List, [], ◌∷◌, ◌++◌, Option, Some, None, IfSome}
-use Rattle.std.proofs.Common.{refl, sym, ap, ◌∙◌, subst, inl, inr}
+use Rattle.std.specs.Prelude.{◌≡◌, ◌⊎◌, ℤ, pos, Bool, true, false, cond, List, [], ◌∷◌, ◌++◌, Option, Some, None, IfSome}
+use Rattle.std.proofs.Common.{refl, subst, inl, inr}
 use Rattle.std.specs.List.{cons_option}
 use Rattle.po_base.specs.declared.operators.Op.{Op}
 use Rattle.po_base.specs.declared.operators.Op.TheVariants as op
 use Rattle.po_base.specs.declared.operators.UnOp.{UnOp}
 use Rattle.po_arith.specs.declared.int_type.IntType.{IntType}
 use Rattle.po_arith.specs.Types.{IsIntType, IsOfType}
-use Rattle.po_interval.specs.declared.members.Members.{Members}
 use Rattle.po_interval.specs.declared.members.Members.TheVariants.{Few, Any}
 use Rattle.po_interval.specs.Members.{AreOfType}
 use Rattle.po_interval.specs.Results.{truth, binary, unary, conv}

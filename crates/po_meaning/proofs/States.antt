@@ -1,5 +1,5 @@
 -- A state of which only the running frame changes, not its slots, belongs where that frame does.
-use Rattle.std.specs.Prelude.{ℕ, zero, suc, ◌≡◌, List, [], ◌∷◌, All, Option, Some, slice_get}
+use Rattle.std.specs.Prelude.{ℕ, zero, suc, ◌≡◌, List, ◌∷◌, Option, Some, slice_get}
 use Rattle.std.proofs.Common.{refl, sym, ap, ◌∙◌, subst}
 use Rattle.std.proofs.lemmas.List.Elements.{All-cons}
 use Rattle.po_base.specs.declared.numbers.FunNo.{FunNo}
@@ -10,7 +10,7 @@ use Rattle.po_memory.specs.declared.block.Block.{Block}
 use Rattle.po_memory.specs.declared.frame.Frame.{Frame}
 use Rattle.po_meaning.specs.Operands.{block_held, slot_block}
 use Rattle.po_meaning.specs.States.{State, IsOf}
-use Rattle.po_meaning.specs.Belongs.{FrameBelongs, Wait, HasEntered, IsOfSlot, SlotsBelong, FramePoints, PointersBelong, Belongs}
+use Rattle.po_meaning.specs.Belongs.{FrameBelongs, Wait, HasEntered, IsOfSlot, SlotsBelong, FramePoints, Belongs}
 use Rattle.po_meaning.proofs.Places.{All-tail}
 
 abbrev pub state : Frame → List Frame → List Block → State
