@@ -5,7 +5,6 @@ pub mod Effects
 pub mod Room
 pub mod Kept
 pub mod Settled
-mod Shelved
 pub mod Items
 pub mod Taken
 pub mod Starts
@@ -21,4 +20,3 @@ mod Reported
 mod Indexed
 mod Located
 mod Judged
-mod Added

@@ -6,5 +6,3 @@ pub mod Answers
 pub mod Hands
 pub mod Indexed
 pub mod Verdicts
-pub mod Made
-pub mod Shelves

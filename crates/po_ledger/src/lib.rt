@@ -15,7 +15,6 @@ mod parts;
 mod places;
 mod report;
 mod settling;
-mod shelf;
 mod ticket;
 
 pub use ledger::Ledger;
