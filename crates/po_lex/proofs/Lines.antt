@@ -65,14 +65,14 @@ no_newline : (c d : ℕ) → (beginning c d ≡ l.Blank → ⊥) → c ≡ 10 �
 no_newline c d other e = other (rw e refl)
 
 -- a part with one byte before such a row, and with no newline behind it, ends no line
-lineless : (row : Row) (close : List ℕ) (bytes : List ℕ) (end : ℕ) → ((b : ℕ) → goes_on row b 10 ≡ false) → newlines close ≡ 0 →
-    (lead_of bytes ≡ l.Blank → ⊥) → 1 ≤ length bytes → skip row 0 (drop 1 bytes) ≡ close ++ drop end bytes → 0 ≡ newlines (take end bytes)
-lineless row close [] end none closed other some ended = absurd (omega arith)
-lineless row close (c ∷ cs) end none closed other some ended =
+lineless : (kind : Row) (close : List ℕ) (bytes : List ℕ) (end : ℕ) → ((b : ℕ) → goes_on kind b 10 ≡ false) → newlines close ≡ 0 →
+    (lead_of bytes ≡ l.Blank → ⊥) → 1 ≤ length bytes → skip kind 0 (drop 1 bytes) ≡ close ++ drop end bytes → 0 ≡ newlines (take end bytes)
+lineless kind close [] end none closed other some ended = absurd (omega arith)
+lineless kind close (c ∷ cs) end none closed other some ended =
     let all : ends (take end (c ∷ cs)) + ends (drop end (c ∷ cs)) ≡ ends (c ∷ cs) =
     sym (ends-append (take end (c ∷ cs)) (drop end (c ∷ cs))) ∙ ap ends (take-append-drop end (c ∷ cs)) in
     let first : ends (c ∷ cs) ≡ ends cs = ends_other c cs (no_newline c (get_or (c ∷ cs) 1 0) other) in
-    let rest : ends cs ≡ ends close + ends (drop end (c ∷ cs)) = ends_row row 0 cs none ∙ ap ends ended ∙ ends-append close (drop end (c ∷ cs)) in
+    let rest : ends cs ≡ ends close + ends (drop end (c ∷ cs)) = ends_row kind 0 cs none ∙ ap ends ended ∙ ends-append close (drop end (c ∷ cs)) in
     let none_closed : ends close ≡ 0 = ends_so close ∙ closed in
     let none_in : 0 ≡ ends (take end (c ∷ cs)) = omega (arith, all, first, rest, none_closed) in
     none_in ∙ ends_so (take end (c ∷ cs))
