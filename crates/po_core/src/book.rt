@@ -4,6 +4,7 @@ ghost use Rattle.po_core.specs.Book.{Book, IsBook};
 use crate::obl::{Obl, Verdict};
 use po_base::{FileNo, FunNo, List, Memory, NodeNo};
 use std::alloc::Global;
+use std::hash::Hash;
 
 /// What an analysis asks about a program, and how it decides.
 ///
@@ -13,7 +14,7 @@ use std::alloc::Global;
 /// predicates. A verdict is a function of the obligation: neither the worker that asks nor the moment counts.
 pub trait Rulebook {
     /// What has to hold at a node.
-    type Pred: Copy + Ord;
+    type Pred: Copy + Ord + Hash;
 
     /// By what an obligation is closed.
     type Rule: Copy;

@@ -7,23 +7,21 @@ use Rattle.std.proofs.lemmas.Option.{slice_get_within}
 use Rattle.po_base.specs.declared.numbers.FileNo.{FileNo}
 use Rattle.po_base.specs.declared.numbers.FunNo.{FunNo}
 use Rattle.po_core.specs.Book.{Book, file_of_obl}
-use Rattle.po_core.specs.Core.{AreApart, CoreState, HasMark, IsHeld, IsInHand, CanTake, Takes, Frees, KeepsAssumed, Steps, Replays, IsLegal}
+use Rattle.po_core.specs.Core.{AreApart, CoreState, HasHand, HasMark, IsHeld, IsInHand, CanTake, Takes, Frees, KeepsAssumed, Steps, Replays, IsLegal}
 use Rattle.po_core.specs.Theorem.{IsOrderly}
 use Rattle.po_core.specs.declared.event.Event.{Event}
 use Rattle.po_core.specs.declared.event.Event.TheVariants.{Take, Settle, Give, PutBack, Ask}
 use Rattle.po_core.specs.declared.event.Hand.{Hand}
 use Rattle.po_core.specs.declared.event.Mark.{Mark}
-use Rattle.po_core.specs.declared.event.Mark.TheVariants.{Untaken, Taken}
+use Rattle.po_core.specs.declared.event.Mark.TheVariants.{Untaken, Taken, Settled}
 use Rattle.po_core.specs.declared.obl.Obl.{Obl}
 use Rattle.po_core.specs.declared.obl.Verdict.{Verdict}
 use Rattle.po_core.specs.Lists.{has}
-use Rattle.po_core.specs.Marks.{settled_taken, taken_untaken}
+use Rattle.po_core.specs.Marks.{same_hand, settled_taken, taken_untaken}
 use Rattle.po_ledger.specs.Calls.{Does}
-use Rattle.po_ledger.specs.Parts.{IsRemarked, TakesFrom}
+use Rattle.po_ledger.specs.Parts.{AreRemarked, TakesFrom}
 use Rattle.po_ledger.specs.View.{LedgerView, IsKept, IsRoomFor, AreTables}
-use Rattle.po_ledger.specs.declared.marks.Remark.{Remark}
-use Rattle.po_ledger.specs.declared.marks.Remark.TheVariants as r
-use Rattle.po_ledger.proofs.Effects.{remark_means, keys_same, remarks_like, other_hands_kept, now_held, now_free, replays_more, get_set_same, get_set_other}
+use Rattle.po_ledger.proofs.Effects.{remarks_like, other_hands_kept, now_held, now_free, replays_more, get_set_same, get_set_other}
 use Rattle.po_ledger.proofs.Room.{room_kept, room_settled, room_freed, room_taken}
 
 -- a fact of the value that is seen
@@ -60,8 +58,8 @@ module _ {P N T : Type 0} (b : Book P N T) (of_book : Book P N T) (l m : LedgerV
   replays_after e did = subst (λ (z : List (Event P N)). Replays b z m.state) (sym did.appends) (replays_more b l.journal e l.state m.state k.ledger.replays did.steps)
 
   -- a remark keeps the obligations apart
-  remarked_apart : (mark : Remark P N) → IsRemarked b mark l.state.marks m.state.marks → AreApart (map (λ x. x.0) m.state.marks)
-  remarked_apart mark h = subst (λ (z : List (Obl P)). AreApart z) (sym (keys_same l.state.marks m.state.marks h.length_same (λ j d w. (h.each j d w).0))) k.apart
+  remarked_apart : (W : Obl P → Type 0) (from to : Mark P N) → AreRemarked W from to l.state.marks m.state.marks → AreApart (map (λ x. x.0) m.state.marks)
+  remarked_apart W from to h = subst (λ (z : List (Obl P)). AreApart z) (sym h.keys) k.apart
 
   still_apart : m.state.assumed ≡ l.state.assumed → AreApart m.state.assumed
   still_apart same = subst (λ (z : List (FunNo × P)). AreApart z) (sym same) k.assumed_apart
@@ -84,14 +82,14 @@ module _ {P N T : Type 0} (b : Book P N T) (of_book : Book P N T) (l m : LedgerV
       (ap (λ (z : CoreState P N). length z.hands) same) refl k.shelved
 
   -- taking
-  unfoldable pub take_takes : (worker : ℕ) (file : FileNo) (items : List (Obl P)) → file.0 < length l.state.hands → IsRemarked b (r.Take file) l.state.marks m.state.marks → m.state.hands ≡ set l.state.hands file.0 (Some (record { worker = worker; items = items })) → m.state.assumed ≡ l.state.assumed → TakesFrom b l.state.marks file items → Takes b worker file l.state m.state
+  unfoldable pub take_takes : (worker : ℕ) (file : FileNo) (items : List (Obl P)) → file.0 < length l.state.hands → AreRemarked (λ o. file_of_obl b o ≡ file) Untaken Taken l.state.marks m.state.marks → m.state.hands ≡ set l.state.hands file.0 (Some (record { worker = worker; items = items })) → m.state.assumed ≡ l.state.assumed → TakesFrom b l.state.marks file items → Takes b worker file l.state m.state
   take_takes worker file items within marks hands same takes = record {
     hand = record { worker = worker; items = items };
     has_hand = now_held l.state m.state file (record { worker = worker; items = items }) hands within;
     by_worker = refl;
     takes_all = takes.all;
     takes_once = takes.once;
-    marks = remark_means b (r.Take file) l.state.marks m.state.marks marks;
+    marks = marks.marks;
     other_hands = other_hands_kept l.state m.state file (Some (record { worker = worker; items = items })) hands;
     assumed = assumed_kept same;
   }
@@ -99,10 +97,10 @@ module _ {P N T : Type 0} (b : Book P N T) (of_book : Book P N T) (l m : LedgerV
   unfoldable pub take_does : (worker : ℕ) (file : FileNo) → CanTake b l.state file → Takes b worker file l.state m.state → m.journal ≡ l.journal ++ Take worker file ∷ [] → Does b (Take worker file) l m
   take_does worker file can takes grows = record { steps = record { legal = can; effect = takes }; appends = grows }
 
-  pub take_kept : (later : List (List (FunNo × T))) (worker : ℕ) (file : FileNo) (did : Does b (Take worker file) l m) → IsRemarked b (r.Take file) l.state.marks m.state.marks → m.state.assumed ≡ l.state.assumed → length m.state.hands ≡ length l.state.hands → l.spare + (length did.steps.effect.hand.items + 1) ≤ m.spare → later ≡ set shelves file.0 [] → IsKept b of_book m later
+  pub take_kept : (later : List (List (FunNo × T))) (worker : ℕ) (file : FileNo) (did : Does b (Take worker file) l m) → AreRemarked (λ o. file_of_obl b o ≡ file) Untaken Taken l.state.marks m.state.marks → m.state.assumed ≡ l.state.assumed → length m.state.hands ≡ length l.state.hands → l.spare + (length did.steps.effect.hand.items + 1) ≤ m.spare → later ≡ set shelves file.0 [] → IsKept b of_book m later
   take_kept later worker file did marks same hands le is = kept_after later (Take worker file) did
       (room_taken l.state m.state l.spare m.spare k.ledger.room b worker file did.steps.effect le)
-      (remarked_apart (r.Take file) marks)
+      (remarked_apart (λ o. file_of_obl b o ≡ file) Untaken Taken marks)
       (still_apart same)
       hands
       (ap length is ∙ length-set shelves file.0 [])
@@ -118,12 +116,12 @@ module _ {P N T : Type 0} (b : Book P N T) (of_book : Book P N T) (l m : LedgerV
       ])
 
   -- settling
-  pub settle_does : (file : FileNo) (o : Obl P) (v : Verdict P N) → IsLegal b l.state (Settle file o v) → IsRemarked b (r.Settle o v) l.state.marks m.state.marks → m.state.hands ≡ l.state.hands → m.state.assumed ≡ l.state.assumed → m.journal ≡ l.journal ++ Settle file o v ∷ [] → Does b (Settle file o v) l m
+  pub settle_does : (file : FileNo) (o : Obl P) (v : Verdict P N) → IsLegal b l.state (Settle file o v) → AreRemarked (λ p. p ≡ o) Taken (Settled v) l.state.marks m.state.marks → m.state.hands ≡ l.state.hands → m.state.assumed ≡ l.state.assumed → m.journal ≡ l.journal ++ Settle file o v ∷ [] → Does b (Settle file o v) l m
   settle_does file o v legal marks hands same grows = record {
     steps = record {
       legal = legal;
       effect = record {
-        marks = remark_means b (r.Settle o v) l.state.marks m.state.marks marks;
+        marks = marks.marks;
         hands = λ f h. (λ x. ap (λ (z : List (Option (Hand P))). slice_get z f.0) (sym hands) ∙ x, λ x. ap (λ (z : List (Option (Hand P))). slice_get z f.0) hands ∙ x);
         assumed = assumed_kept same;
       };
@@ -131,13 +129,13 @@ module _ {P N T : Type 0} (b : Book P N T) (of_book : Book P N T) (l m : LedgerV
     appends = grows;
   }
 
-  pub settle_kept : (file : FileNo) (o : Obl P) (v : Verdict P N) (did : Does b (Settle file o v) l m) → IsRemarked b (r.Settle o v) l.state.marks m.state.marks → m.state.hands ≡ l.state.hands → m.state.assumed ≡ l.state.assumed → l.spare ≤ m.spare + 1 → IsKept b of_book m shelves
+  pub settle_kept : (file : FileNo) (o : Obl P) (v : Verdict P N) (did : Does b (Settle file o v) l m) → AreRemarked (λ p. p ≡ o) Taken (Settled v) l.state.marks m.state.marks → m.state.hands ≡ l.state.hands → m.state.assumed ≡ l.state.assumed → l.spare ≤ m.spare + 1 → IsKept b of_book m shelves
   settle_kept file o v did marks hands same le = kept_after shelves (Settle file o v) did
       (room_settled l.state m.state l.spare m.spare k.ledger.room o did.steps.legal.0.1 (λ p h. elim ((did.steps.effect.marks p Taken).0 h) [
         | inl x ↦ absurd (settled_taken v (sym x.0))
         | inr x ↦ (x.0, λ q. x.1 (refl, q))
       ]) (λ f h. (h.0, (did.steps.effect.hands f h.0).0 h.1)) le)
-      (remarked_apart (r.Settle o v) marks) (still_apart same) (ap length hands) refl k.shelved
+      (remarked_apart (λ p. p ≡ o) Taken (Settled v) marks) (still_apart same) (ap length hands) refl k.shelved
 
   -- giving back
   pub frees : (file : FileNo) → m.state.hands ≡ set l.state.hands file.0 None → m.state.assumed ≡ l.state.assumed → file.0 < length l.state.hands → Frees file l.state m.state
@@ -174,25 +172,27 @@ module _ {P N T : Type 0} (b : Book P N T) (of_book : Book P N T) (l m : LedgerV
         | inr ne ↦ k.shelved at here (sym (get_set_other shelves file.0 at tables ne) ∙ (ap (λ (z : List (List (FunNo × T))). slice_get z at) (sym is) ∙ h))
       ])
 
-  pub put_back_does : (file : FileNo) → IsOrderly b l.state → IsHeld l.state file → Frees file l.state m.state → IsRemarked b (r.PutBack file) l.state.marks m.state.marks → m.journal ≡ l.journal ++ PutBack file ∷ [] → Does b (PutBack file) l m
-  put_back_does file order held free marks grows = record {
-    steps = record {
-      legal = held;
-      effect = (
-        free,
-        remarks_like l.state m.state (λ o. file_of_obl b o ≡ file) (λ o. IsInHand l.state file o) Taken Untaken (λ o h. (
-          λ q. subst (λ (z : FileNo). IsInHand l.state z o) q (order.taken_in_hand o h),
-          λ x. order.hands_of_file file o x,
-        )) (remark_means b (r.PutBack file) l.state.marks m.state.marks marks),
-      );
-    };
-    appends = grows;
-  }
+  -- putting back: what the hand that held the file has
+  module _ (file : FileNo) (hand : Hand P) (held : HasHand l.state file hand) where
+    pub put_back_does : Frees file l.state m.state → AreRemarked (λ o. Contains hand.items o) Taken Untaken l.state.marks m.state.marks → m.journal ≡ l.journal ++ PutBack file ∷ [] → Does b (PutBack file) l m
+    put_back_does free marks grows = record {
+      steps = record {
+        legal = (hand, held);
+        effect = (
+          free,
+          remarks_like l.state m.state (λ o. Contains hand.items o) (λ o. IsInHand l.state file o) Taken Untaken (λ o h. (
+            λ q. (hand, held, q),
+            λ x. subst (λ (z : Hand P). Contains z.items o) (same_hand x.0 hand (sym x.1 ∙ held)) x.2,
+          )) marks.marks,
+        );
+      };
+      appends = grows;
+    }
 
-  pub put_back_kept : (file : FileNo) (did : Does b (PutBack file) l m) → IsRemarked b (r.PutBack file) l.state.marks m.state.marks → m.state.assumed ≡ l.state.assumed → length m.state.hands ≡ length l.state.hands → l.spare ≤ m.spare + 1 → IsKept b of_book m shelves
-  put_back_kept file did marks same hands le = kept_after shelves (PutBack file) did
-      (room_freed l.state m.state l.spare m.spare k.ledger.room file did.steps.legal (λ o h. elim ((did.steps.effect.1 o Taken).0 h) [ inl x ↦ absurd (taken_untaken x.0) | inr x ↦ x.0 ]) (freed file did.steps.effect.0) le)
-      (remarked_apart (r.PutBack file) marks) (still_apart same) hands refl k.shelved
+    pub put_back_kept : (did : Does b (PutBack file) l m) → AreRemarked (λ o. Contains hand.items o) Taken Untaken l.state.marks m.state.marks → m.state.assumed ≡ l.state.assumed → length m.state.hands ≡ length l.state.hands → l.spare ≤ m.spare + 1 → IsKept b of_book m shelves
+    put_back_kept did marks same hands le = kept_after shelves (PutBack file) did
+        (room_freed l.state m.state l.spare m.spare k.ledger.room file did.steps.legal (λ o h. elim ((did.steps.effect.1 o Taken).0 h) [ inl x ↦ absurd (taken_untaken x.0) | inr x ↦ x.0 ]) (freed file did.steps.effect.0) le)
+        (remarked_apart (λ o. Contains hand.items o) Taken Untaken marks) (still_apart same) hands refl k.shelved
 
 module _ {P N T : Type 0} (b of_book : Book P N T) (l : LedgerView P N T) (shelves : List (List (FunNo × T))) (k : IsKept b of_book l shelves) (law : (es : List (Event P N)) (s : CoreState P N) → Replays of_book es s → IsOrderly of_book s) where
   pub order_here : IsOrderly b l.state
@@ -210,11 +210,16 @@ module _ {P N T : Type 0} (b of_book : Book P N T) (l : LedgerView P N T) (shelv
       omega arith
 
   module _ (m : LedgerView P N T) where
-    pub remarked_here : (mark : Remark P N) → IsRemarked of_book mark l.state.marks m.state.marks → IsRemarked b mark l.state.marks m.state.marks
-    remarked_here mark h = subst (λ (z : Book P N T). IsRemarked z mark l.state.marks m.state.marks) k.same_book h
+    pub remarked_here : (file : FileNo) → AreRemarked (λ o. file_of_obl of_book o ≡ file) Untaken Taken l.state.marks m.state.marks → AreRemarked (λ o. file_of_obl b o ≡ file) Untaken Taken l.state.marks m.state.marks
+    remarked_here file h = subst (λ (z : Book P N T). AreRemarked (λ o. file_of_obl z o ≡ file) Untaken Taken l.state.marks m.state.marks) k.same_book h
 
-    pub put_back_did : (file : FileNo) → IsHeld l.state file → IsRemarked of_book (r.PutBack file) l.state.marks m.state.marks → m.state.hands ≡ set l.state.hands file.0 None → m.state.assumed ≡ l.state.assumed → m.journal ≡ l.journal ++ PutBack file ∷ [] → Does b (PutBack file) l m
-    put_back_did file held marks hands same grows = put_back_does b of_book l m shelves k file order_here held (frees b of_book l m shelves k file hands same (held_place file held)) (remarked_here (r.PutBack file) marks) grows
+    module _ (file : FileNo) (hand : Hand P) (held : HasHand l.state file hand) (marks : AreRemarked (λ o. Contains hand.items o) Taken Untaken l.state.marks m.state.marks) (hands : m.state.hands ≡ set l.state.hands file.0 None) (same : m.state.assumed ≡ l.state.assumed) (grows : m.journal ≡ l.journal ++ PutBack file ∷ []) where
+      pub put_back_did : Does b (PutBack file) l m
+      put_back_did = put_back_does b of_book l m shelves k file hand held (frees b of_book l m shelves k file hands same (held_place file (hand, held))) marks grows
 
-    pub put_back_keeps : (file : FileNo) → IsHeld l.state file → IsRemarked of_book (r.PutBack file) l.state.marks m.state.marks → m.state.hands ≡ set l.state.hands file.0 None → m.state.assumed ≡ l.state.assumed → m.journal ≡ l.journal ++ PutBack file ∷ [] → l.spare ≤ m.spare + 1 → IsKept b of_book m shelves
-    put_back_keeps file held marks hands same grows le = put_back_kept b of_book l m shelves k file (put_back_did file held marks hands same grows) (remarked_here (r.PutBack file) marks) same (ap length hands ∙ length-set l.state.hands file.0 None) le
+      pub put_back_keeps : l.spare ≤ m.spare + 1 → IsKept b of_book m shelves
+      put_back_keeps le = put_back_kept b of_book l m shelves k file hand held put_back_did marks same (ap length hands ∙ length-set l.state.hands file.0 None) le
+
+    -- a hand's obligations are of its file
+    pub hand_of_file : (file : FileNo) (hand : Hand P) → HasHand l.state file hand → (o : Obl P) → Contains hand.items o → file_of_obl of_book o ≡ file
+    hand_of_file file hand held o h = subst (λ (z : Book P N T). file_of_obl z o ≡ file) (sym k.same_book) (order_here.hands_of_file file o (hand, held, h))

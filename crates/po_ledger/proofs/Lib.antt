@@ -1,6 +1,4 @@
 pub mod Lists
-pub mod Adds
-pub mod Remarked
 pub mod Effects
 pub mod Room
 pub mod Kept
@@ -19,6 +17,5 @@ mod Lined
 mod Ascending
 mod Reported
 mod Indexed
-mod Located
-mod Judged
 mod Added
+pub mod Queued

@@ -15,7 +15,7 @@ use Rattle.po_base.specs.declared.numbers.FileNo.{FileNo}
 use Rattle.po_core.specs.Book.{Book, file_of_obl}
 use Rattle.po_core.specs.declared.event.Hand.{Hand}
 use Rattle.po_core.specs.declared.event.Mark.TheVariants.{Untaken}
-use Rattle.po_ledger.specs.Parts.{HasKey, HandAt, NoneTakeable, PushesUntaken, TakesFrom}
+use Rattle.po_ledger.specs.Parts.{HasKey, HandAt}
 
 -- the list up to one more item
 pub take_read : {X : Type 0} (xs : List X) (i : ℕ) (x : X) → i < length xs → x ≡ get_or xs i x → take (i + 1) xs ≡ take i xs ++ x ∷ []
@@ -68,44 +68,6 @@ key_once {P} {N} (x ∷ xs) (suc i) e a l q m h =
       | inl k ↦ a.0 (mark_of_key xs x.0 (e.1, subst (λ (z : Obl P). Contains xs (z, e.1)) (ap (λ (z : Obl P × Mark P N). z.0) (sym k)) (read_in xs i e later q)))
       | inr k ↦ key_once xs i e a.1 later q m k
     ]
-
-module _ {P N T : Type 0} (b : Book P N T) where
-  pub none_more : (marks : List (Obl P × Mark P N)) (hands : List (Option (Hand P))) (i : ℕ) (e : Obl P × Mark P N) → i < length marks → e ≡ get_or marks i e → NoneTakeable b (take i marks) hands → (e.1 ≡ Untaken → HandAt hands (file_of_obl b e.0)) → NoneTakeable b (take (i + 1) marks) hands
-  none_more marks hands i e l q none here o h = elim (front_cases marks i e (o, Untaken) l q h) [
-    | inl k ↦ none o k
-    | inr k ↦ subst (λ (z : Obl P). HandAt hands (file_of_obl b z)) (ap (λ (z : Obl P × Mark P N). z.0) k) (here (ap (λ (z : Obl P × Mark P N). z.1) k))
-  ]
-
-  pub takes_none : (marks : List (Obl P × Mark P N)) (file : FileNo) → TakesFrom b (take 0 marks) file []
-  takes_none marks file = record { all = λ o. (λ h. absurd (has [] o h), λ h. absurd (has [] (o, Untaken) h.0)); once = tt }
-
-  pub takes_more : (marks : List (Obl P × Mark P N)) (file : FileNo) (i : ℕ) (e : Obl P × Mark P N) (items new : List (Obl P)) → AreApart (map (λ x. x.0) marks) → i < length marks → e ≡ get_or marks i e → TakesFrom b (take i marks) file items → PushesUntaken b file e items new → TakesFrom b (take (i + 1) marks) file new
-  takes_more marks file i e items new a l q t (inl p) =
-      let is : Obl P → Type 0 = λ o. Contains new o in
-      let entry : (o : Obl P) → e.0 ≡ o → ◌≡◌ {A = Obl P × Mark P N} e (o, Untaken) = λ o k. ap (λ (z : Mark P N). let y : Obl P × Mark P N = (e.0, z) in y) p.0.0 ∙ ap (λ (z : Obl P). let y : Obl P × Mark P N = (z, Untaken) in y) k in
-      record {
-        all = λ o. (
-          λ h. elim (Contains-push_cases items e.0 o (subst (λ (z : List (Obl P)). Contains z o) p.1 h)) [
-            | inl k ↦ (let x = (t.all o).0 k in (front_more marks i e (o, Untaken) l q x.0, x.1))
-            | inr k ↦ (subst (λ (z : Obl P × Mark P N). Contains (take (i + 1) marks) z) (entry o k) (front_last marks i e l q), subst (λ (z : Obl P). file_of_obl b z ≡ file) k p.0.1)
-          ],
-          λ h. subst (λ (z : List (Obl P)). Contains z o) (sym p.1) (elim (front_cases marks i e (o, Untaken) l q h.0) [
-            | inl k ↦ Contains-append_left items (e.0 ∷ []) o ((t.all o).1 (k, h.1))
-            | inr k ↦ subst (λ (z : Obl P). Contains (items ++ e.0 ∷ []) z) (ap (λ (z : Obl P × Mark P N). z.0) k) (Contains-push items e.0)
-          ]),
-        );
-        once = subst (λ (z : List (Obl P)). AreApart z) (sym p.1) (apart_push items e.0 t.once (λ h. key_once marks i e a l q Untaken (has _ _ ((t.all e.0).0 h).0)));
-      }
-  takes_more marks file i e items new a l q t (inr p) = record {
-    all = λ o. (
-      λ h. let x = (t.all o).0 (subst (λ (z : List (Obl P)). Contains z o) p.1 h) in (front_more marks i e (o, Untaken) l q x.0, x.1),
-      λ h. subst (λ (z : List (Obl P)). Contains z o) (sym p.1) (elim (front_cases marks i e (o, Untaken) l q h.0) [
-        | inl k ↦ (t.all o).1 (k, h.1)
-        | inr k ↦ absurd (p.0 (ap (λ (z : Obl P × Mark P N). z.1) k, subst (λ (z : Obl P). file_of_obl b z ≡ file) (sym (ap (λ (z : Obl P × Mark P N). z.0) k)) h.1))
-      ]),
-    );
-    once = subst (λ (z : List (Obl P)). AreApart z) (sym p.1) t.once;
-  }
 
 -- hands up to one more place
 pub no_hand_more : {P : Type 0} (hands : List (Option (Hand P))) (i : ℕ) (e : Option (Hand P)) → i < length hands → e ≡ get_or hands i e → ((k : ℕ) (hand : Hand P) → k < i → slice_get hands k ≡ Some (Some hand) → ⊥) → (IsSome e → ⊥) → (k : ℕ) (hand : Hand P) → k < i + 1 → slice_get hands k ≡ Some (Some hand) → ⊥

@@ -1,13 +1,13 @@
 -- Posting a predicate for an item of a ticket that fits.
 use Rattle.std.proofs.Common.{◌≡◌, ◌⊎◌, ℕ, ◌<◌, ◌≤◌, List, [], ◌∷◌, ◌++◌, length, map, take, refl, sym, ◌∙◌, ap, subst, inl, inr}
-use Rattle.std.specs.Prelude.{false, Option, slice_get}
+use Rattle.std.specs.Prelude.{Bool, false, Option, slice_get}
 use Rattle.std.specs.List.{Contains}
 use Rattle.std.proofs.lemmas.List.{take_at}
 use Rattle.std.proofs.lemmas.List.Elements.{Contains-append_left, Contains-append_cases, Contains-push, Contains-push_cases}
 use Rattle.po_base.specs.declared.numbers.FileNo.{FileNo}
 use Rattle.po_base.specs.declared.numbers.FunNo.{FunNo}
 use Rattle.po_base.specs.declared.numbers.NodeNo.{NodeNo}
-use Rattle.po_core.specs.Book.{Book, IsSupport}
+use Rattle.po_core.specs.Book.{Book, IsBook, IsSupport}
 use Rattle.po_core.specs.Core.{AreApart, CoreState, HasMark, IsAssumed, Posts, Replays, IsLegal}
 use Rattle.po_core.specs.Theorem.{IsOrderly}
 use Rattle.po_core.specs.declared.event.Event.{Event}
@@ -110,6 +110,9 @@ module _ {P N T : Type 0} (b of_book : Book P N T) (l : LedgerView P N T) (shelv
 
   pub post_there : p.fun.0 < of_book.functions
   post_there = subst (λ (z : Book P N T). p.fun.0 < z.functions) (sym kept.same_book) ((order_here b of_book l shelves kept law).functions_there p (Taken, legal_here.0.1))
+
+  pub callers_there : (eq : P → P → Bool) → IsBook eq of_book → (sites : List (FunNo × NodeNo)) → sites ≡ of_book.call_sites p.fun → (g : FunNo) (n : NodeNo) → Contains sites (g, n) → g.0 < of_book.functions
+  callers_there eq book_law sites all g n h = book_law.callers_there p.fun g n post_there (subst (λ (z : List (FunNo × NodeNo)). Contains z (g, n)) all h)
 
   module _ (m : LedgerView P N T) (file : FileNo) (of_ticket : file ≡ t.file) (sites : List (FunNo × NodeNo)) (all : sites ≡ of_book.call_sites p.fun) (adds : AddsEach (supports_of q sites) l.state.marks m.state.marks) (assumes : AddsItem l.state.assumed m.state.assumed (p.fun, q)) (hands : m.state.hands ≡ l.state.hands) (grows : m.journal ≡ l.journal ++ Post file p q ∷ []) where
     post_effect : Posts b p.fun q l.state m.state

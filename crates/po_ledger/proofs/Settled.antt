@@ -19,10 +19,9 @@ use Rattle.po_core.specs.declared.obl.Verdict.{Verdict}
 use Rattle.po_core.specs.Lists.{Has, has, contains, contains_map, has_from_map}
 use Rattle.po_core.specs.Marks.{same_hand}
 use Rattle.po_ledger.specs.Calls.{Does, CanSettle, SettlesItem, CanGive, IsOpenAt, IsItemAt}
-use Rattle.po_ledger.specs.Parts.{IsRemarked}
+use Rattle.po_ledger.specs.Parts.{AreRemarked}
 use Rattle.po_ledger.specs.View.{LedgerView, TicketView, IsKept, AreTables, Fits, items_of}
-use Rattle.po_ledger.specs.declared.marks.Remark.TheVariants as r
-use Rattle.po_ledger.proofs.Kept.{does_seen, order_here, remarked_here, room_one, held_place, settle_does, settle_kept, give_does, give_kept, frees}
+use Rattle.po_ledger.proofs.Kept.{does_seen, order_here, room_one, held_place, settle_does, settle_kept, give_does, give_kept, frees}
 
 -- what is read at a place is in the list
 pub got_in : {X : Type 0} (xs : List X) (k : ℕ) (x : X) → slice_get xs k ≡ Some x → Has xs x
@@ -118,15 +117,18 @@ module _ {P N T : Type 0} (b of_book : Book P N T) (l : LedgerView P N T) (shelv
     can_here : CanSettle b l.state t k v
     can_here = can_settle_seen b l old t k v q can
 
+    pub settle_taken : HasMark l.state p Taken
+    settle_taken = (settle_legal b l.state (order_here b of_book l shelves kept law) t k v p can_here item).0.1
+
     pub settle_room : 0 < l.spare
     settle_room = room_one b of_book l shelves kept law t.file (fits_held can_here.fits)
 
-    module _ (m : LedgerView P N T) (file : FileNo) (of_ticket : file ≡ t.file) (marks : IsRemarked of_book (r.Settle p v) l.state.marks m.state.marks) (hands : m.state.hands ≡ l.state.hands) (same : m.state.assumed ≡ l.state.assumed) (grows : m.journal ≡ l.journal ++ Settle file p v ∷ []) where
+    module _ (m : LedgerView P N T) (file : FileNo) (of_ticket : file ≡ t.file) (marks : AreRemarked (λ z. z ≡ p) Taken (Settled v) l.state.marks m.state.marks) (hands : m.state.hands ≡ l.state.hands) (same : m.state.assumed ≡ l.state.assumed) (grows : m.journal ≡ l.journal ++ Settle file p v ∷ []) where
       settle_did : Does b (Settle t.file p v) l m
-      settle_did = settle_does b of_book l m shelves kept t.file p v (settle_legal b l.state (order_here b of_book l shelves kept law) t k v p can_here item) (remarked_here b of_book l shelves kept law m (r.Settle p v) marks) hands same (subst (λ (z : FileNo). m.journal ≡ l.journal ++ Settle z p v ∷ []) of_ticket grows)
+      settle_did = settle_does b of_book l m shelves kept t.file p v (settle_legal b l.state (order_here b of_book l shelves kept law) t k v p can_here item) marks hands same (subst (λ (z : FileNo). m.journal ≡ l.journal ++ Settle z p v ∷ []) of_ticket grows)
 
       pub settle_keeps : l.spare ≤ m.spare + 1 → IsKept b of_book m shelves
-      settle_keeps le = settle_kept b of_book l m shelves kept t.file p v settle_did (remarked_here b of_book l shelves kept law m (r.Settle p v) marks) hands same le
+      settle_keeps le = settle_kept b of_book l m shelves kept t.file p v settle_did marks hands same le
 
       pub settles_item : (u : TicketView P T) → (o : Obl P) × IsItemAt t k o × (u ≡ record t { hand = set t.hand k (o, true) }) → SettlesItem b k v t u old m
       settles_item u w =

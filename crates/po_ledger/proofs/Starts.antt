@@ -1,6 +1,7 @@
 -- A new ledger, and when all is done.
-use Rattle.std.proofs.Common.{◌≡◌, ℕ, zero, suc, ◌+◌, ◌<◌, ◌≤◌, List, [], ◌∷◌, length, map, replicate, refl, sym, ◌∙◌, ap, subst, inl, inr, arith}
-use Rattle.std.specs.Prelude.{Option, Some, None, slice_get, IfSome, IfNone}
+use Rattle.std.proofs.Common.{◌≡◌, ℕ, zero, suc, ◌+◌, ◌<◌, ◌≤◌, List, [], ◌∷◌, length, map, replicate, get_or, refl, sym, ◌∙◌, ap, subst, inl, inr, arith}
+use Rattle.std.specs.Prelude.{Bool, Option, Some, None, slice_get, IfSome, IfNone}
+use Rattle.std.proofs.lemmas.Option.{slice_get-get_or}
 use Rattle.std.specs.List.{Contains}
 use Rattle.std.proofs.lemmas.Bool.{cases_eq}
 use Rattle.std.proofs.lemmas.List.{length-replicate}
@@ -8,7 +9,7 @@ use Rattle.std.proofs.lemmas.List.Elements.{Contains-append_left, Contains-appen
 use Rattle.po_base.specs.declared.numbers.FileNo.{FileNo}
 use Rattle.po_base.specs.declared.numbers.FunNo.{FunNo}
 use Rattle.po_base.specs.declared.numbers.NodeNo.{NodeNo}
-use Rattle.po_core.specs.Book.{Book, IsPrimary, file_of_obl}
+use Rattle.po_core.specs.Book.{Book, IsBook, IsPrimary, file_of_obl}
 use Rattle.po_core.specs.Core.{AreApart, CoreState, HasMark, IsHeld, IsQuiet, CanTake, IsStart, Runs}
 use Rattle.po_core.specs.declared.event.Event.{Event}
 use Rattle.po_core.specs.declared.event.Hand.{Hand}
@@ -20,19 +21,10 @@ use Rattle.po_core.specs.declared.obl.Obl.{Obl}
 use Rattle.po_core.specs.Lists.{Has, has, contains, contains_map, has_from_map}
 use Rattle.po_core.specs.Marks.{taken_untaken}
 use Rattle.po_ledger.specs.Calls.{IsNew}
-use Rattle.po_ledger.specs.Indexed.{AreLeft}
-use Rattle.po_ledger.specs.Parts.{AddsEach, HandAt, NoneTakeable, primaries_of, primaries_below}
+use Rattle.po_ledger.specs.Parts.{AddsEach, HandAt, HasKey, IsIdle, primaries_of, primaries_below}
+use Rattle.po_marks.specs.Waiting.{AreWaiting, Marking, all_of}
+use Rattle.po_marks.specs.declared.queue.Queue.{Queue}
 use Rattle.po_ledger.specs.View.{LedgerView, IsKept}
-
-module _ {P N T : Type 0} (b of_book : Book P N T) (same : of_book ≡ b) (s : CoreState P N) where
-  pub can_take : (file : FileNo) → ((¬ HandAt s.hands file) × ((o : Obl P) × Contains s.marks (o, Untaken) × (file_of_obl of_book o ≡ file))) → CanTake b s file
-  can_take file h = (h.0, (h.1.0, h.1.1, subst (λ (z : Book P N T). file_of_obl z h.1.0 ≡ file) same h.1.2))
-
-  pub none_takeable : NoneTakeable of_book s.marks s.hands → (file : FileNo) → ¬ CanTake b s file
-  none_takeable none file c =
-      let held = none c.1.0 c.1.1 in
-      let is : file_of_obl of_book c.1.0 ≡ file = subst (λ (z : Book P N T). file_of_obl z c.1.0 ≡ file) (sym same) c.1.2 in
-      c.0 (subst (λ (z : FileNo). IsHeld s z) is held)
 
 pub quiet_then : {P N T : Type 0} (b : Book P N T) (s : CoreState P N) → (((file : FileNo) × IsHeld s file) → ⊥) → ((file : FileNo) → ¬ CanTake b s file) → IsQuiet s
 quiet_then b s none idle = record { none_held = λ f h. none (f, h); none_untaken = λ o u. idle (file_of_obl b o) (λ h. none (file_of_obl b o, h), (o, u, refl)) }
@@ -120,19 +112,32 @@ module _ {P N T : Type 0} (b of_book : Book P N T) (same : of_book ≡ b) (l : L
     shelved = λ at tables h f table c. absurd (has [] (f, table) (subst (λ (z : List (FunNo × T)). Contains z (f, table)) (sym (no_tables many at tables (ap (λ (z : List (List (FunNo × T))). slice_get z at) (sym shelf) ∙ h))) c));
   }
 
-module _ {P N T : Type 0} (b of_book : Book P N T) (same : of_book ≡ b) (l old : LedgerView P N T) (q : l ≡ old) (marks : List (Obl P × Mark P N)) (em : AreLeft l.state.marks marks) (hands : List (Option (Hand P))) (eh : hands ≡ l.state.hands) where
-  pub find_some : (r : Option FileNo) → IfSome r (λ file. (¬ HandAt hands file) × ((o : Obl P) × Contains marks (o, Untaken) × (file_of_obl of_book o ≡ file))) → IfSome r (CanTake b old.state)
+-- a file that is found can be taken, and where none is found none can be
+module _ {P N T : Type 0} (b : Book P N T) (l old : LedgerView P N T) (seen : l ≡ old) (m : Marking P N) (em : m.items ≡ l.state.marks) (w : AreWaiting b m) (hands : List (Option (Hand P))) (eh : hands ≡ l.state.hands) where
+  queue_at : (file : FileNo) → file.0 < length m.queues → (q : Queue P) × (slice_get m.queues file.0 ≡ Some q)
+  queue_at file h = let d : Queue P = record { back = []; fresh = [] } in (get_or m.queues file.0 d, slice_get-get_or m.queues file.0 d h)
+
+  pub find_some : (r : Option FileNo) → IfSome r (λ file. (file.0 < length m.queues) × (¬ HandAt hands file) × ((o : Obl P) × Contains m.items (o, Untaken) × ((q : Queue P) → slice_get m.queues file.0 ≡ Some q → Contains (all_of q) o))) → IfSome r (CanTake b old.state)
   find_some None h = h
   find_some (Some file) h =
-      let free : ¬ HandAt l.state.hands file = subst (λ (z : List (Option (Hand P))). ¬ HandAt z file) eh h.0 in
-      let there : Contains l.state.marks (h.1.0, Untaken) = (em.untaken h.1.0).0 h.1.1 in
-      subst (λ (z : LedgerView P N T). CanTake b z.state file) q (can_take b of_book same l.state file (free, (h.1.0, there, h.1.2)))
+      let q = queue_at file h.0 in
+      let free : ¬ HandAt l.state.hands file = subst (λ (z : List (Option (Hand P))). ¬ HandAt z file) eh h.1 in
+      let o = h.2.0 in
+      let there : Contains l.state.marks (o, Untaken) = subst (λ (z : List (Obl P × Mark P N)). Contains z (o, Untaken)) em h.2.1 in
+      let of : file_of_obl b o ≡ file = (w.each file q.0 q.1).of_file o (h.2.2 q.0 q.1) in
+      subst (λ (z : LedgerView P N T). CanTake b z.state file) seen (free, (o, there, of))
 
-  pub find_none : (r : Option FileNo) → IfNone r (NoneTakeable of_book marks hands) → IfNone r ((file : FileNo) → ¬ CanTake b old.state file)
-  find_none (Some file) h = h
-  find_none None h =
-      let there : NoneTakeable of_book l.state.marks l.state.hands = λ o u. subst (λ (z : List (Option (Hand P))). HandAt z (file_of_obl of_book o)) eh (h o ((em.untaken o).1 u)) in
-      λ file c. none_takeable b of_book same l.state there file (subst (λ (z : LedgerView P N T). CanTake b z.state file) (sym q) c)
+  pub find_none : (eq : P → P → Bool) → IsBook eq b → ((o : Obl P) → HasKey l.state.marks o → o.fun.0 < b.functions) → (r : Option FileNo) → IfNone r ((file : FileNo) → file.0 < length m.queues → IsIdle m hands file) → IfNone r ((file : FileNo) → ¬ CanTake b old.state file)
+  find_none eq law known (Some file) h = h
+  find_none eq law known None h = λ file can.
+      let c : CanTake b l.state file = subst (λ (z : LedgerView P N T). CanTake b z.state file) (sym seen) can in
+      let o = c.1.0 in
+      let of : file_of_obl b o ≡ file = c.1.2 in
+      let in_files : (file_of_obl b o).0 < b.files = law.files_there o.fun (known o (Untaken, c.1.1)) in
+      let within : file.0 < b.files = subst (λ (z : FileNo). z.0 < b.files) of in_files in
+      let q = queue_at file (omega (arith, within, w.there)) in
+      let untaken : Contains m.items (o, Untaken) = subst (λ (z : List (Obl P × Mark P N)). Contains z (o, Untaken)) (sym em) c.1.1 in
+      h file (omega (arith, within, w.there)) (λ x. c.0 (subst (λ (z : List (Option (Hand P))). HandAt z file) eh x)) q.0 q.1 o ((w.each file q.0 q.1).complete o untaken of) untaken
 
 pub held_also : {P N T : Type 0} (l old : LedgerView P N T) (q : l ≡ old) (hands : List (Option (Hand P))) (eh : hands ≡ l.state.hands) → (((file : FileNo) × HandAt hands file) → ((file : FileNo) × IsHeld old.state file)) × (((file : FileNo) × IsHeld old.state file) → ((file : FileNo) × HandAt hands file))
 held_also {P} {N} {T} l old q hands eh =

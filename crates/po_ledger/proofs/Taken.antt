@@ -16,9 +16,8 @@ use Rattle.po_core.specs.declared.obl.Obl.{Obl}
 use Rattle.po_core.specs.Lists.{Has, has, contains}
 use Rattle.po_core.specs.Marks.{settled_taken}
 use Rattle.po_ledger.specs.Calls.{Does, HandsOut}
-use Rattle.po_ledger.specs.Parts.{IsRemarked, TakesFrom}
+use Rattle.po_ledger.specs.Parts.{AreRemarked, TakesFrom}
 use Rattle.po_ledger.specs.View.{LedgerView, TicketView, IsKept, IsTicket, Fits, items_of}
-use Rattle.po_ledger.specs.declared.marks.Remark.TheVariants as r
 use Rattle.po_ledger.proofs.Kept.{does_seen, order_here, order_of, known_there, remarked_here, replays_after, take_takes, take_does, take_kept}
 
 -- a hand of which nothing is settled
@@ -60,9 +59,9 @@ module _ {P N T : Type 0} (eq : P → P → Bool) (b of_book : Book P N T) (book
       tables_right = kept.shelved file.0 tables was;
     }
 
-    module _ (m : LedgerView P N T) (marks : IsRemarked of_book (r.Take file) l.state.marks m.state.marks) (hands : m.state.hands ≡ set l.state.hands file.0 (Some (record { worker = worker; items = items }))) (same : m.state.assumed ≡ l.state.assumed) (grows : m.journal ≡ l.journal ++ Take worker file ∷ []) (room : l.spare + (length items + 2) ≤ m.spare) where
+    module _ (m : LedgerView P N T) (marks : AreRemarked (λ o. file_of_obl of_book o ≡ file) Untaken Taken l.state.marks m.state.marks) (hands : m.state.hands ≡ set l.state.hands file.0 (Some (record { worker = worker; items = items }))) (same : m.state.assumed ≡ l.state.assumed) (grows : m.journal ≡ l.journal ++ Take worker file ∷ []) (room : l.spare + (length items + 2) ≤ m.spare) where
       take_effect : Takes b worker file l.state m.state
-      take_effect = take_takes b of_book l m shelves kept worker file items take_place (remarked_here b of_book l shelves kept law m (r.Take file) marks) hands same from_here
+      take_effect = take_takes b of_book l m shelves kept worker file items take_place (remarked_here b of_book l shelves kept law m file marks) hands same from_here
 
       take_did : Does b (Take worker file) l m
       take_did = take_does b of_book l m shelves kept worker file can_here take_effect grows
@@ -76,7 +75,7 @@ module _ {P N T : Type 0} (eq : P → P → Bool) (b of_book : Book P N T) (book
       effect_items = refl
 
       pub take_keeps : (later : List (List (FunNo × T))) (none : List (FunNo × T)) → none ≡ [] → later ≡ set shelves file.0 none → IsKept b of_book m later
-      take_keeps later none empty is = take_kept b of_book l m shelves kept later worker file take_did (remarked_here b of_book l shelves kept law m (r.Take file) marks) same (ap length hands ∙ length-set l.state.hands file.0 (Some (record { worker = worker; items = items }))) (let few = ap length taken_items in omega arith) (is ∙ ap (λ (z : List (FunNo × T)). set shelves file.0 z) empty)
+      take_keeps later none empty is = take_kept b of_book l m shelves kept later worker file take_did (remarked_here b of_book l shelves kept law m file marks) same (ap length hands ∙ length-set l.state.hands file.0 (Some (record { worker = worker; items = items }))) (let few = ap length taken_items in omega arith) (is ∙ ap (λ (z : List (FunNo × T)). set shelves file.0 z) empty)
 
       order_after : IsOrderly b m.state
       order_after = order_of of_book b m kept.same_book law m.journal m.state (replays_after b of_book l m shelves kept (Take worker file) take_did)

@@ -5,6 +5,6 @@ pub mod Parts
 pub mod Answers
 pub mod Hands
 pub mod Indexed
-pub mod Verdicts
 pub mod Made
 pub mod Shelves
+pub mod Queued

@@ -15,82 +15,19 @@ use Rattle.po_core.specs.declared.obl.Cause.TheVariants.{Primary, Support}
 use Rattle.po_core.specs.declared.obl.Obl.{Obl}
 use Rattle.po_core.specs.declared.obl.Verdict.{Verdict}
 use Rattle.po_ledger.specs.View.{items_of}
-use Rattle.po_ledger.specs.declared.marks.Remark.{Remark}
-use Rattle.po_ledger.specs.declared.marks.Remark.TheVariants as r
+use Rattle.po_marks.specs.Waiting.{Marking, all_of}
+use Rattle.po_marks.specs.declared.queue.Queue.{Queue}
 
--- the list has a mark of the obligation
-abbrev pub HasKey : {P N : Type 0} → List (Obl P × Mark P N) → Obl P → Type 0
-HasKey {P} {N} marks o = (m : Mark P N) × Contains marks (o, m)
-
--- the mark at a place is one of the obligation
-abbrev pub IsMarkAt : {P N : Type 0} → List (Obl P × Mark P N) → ℕ → Obl P → Type 0
-IsMarkAt {P} {N} marks at o = (m : Mark P N) × (slice_get marks at ≡ Some (o, m))
-
--- the obligation is there already, or is new at the end and untaken
-abbrev pub AddsUntaken : {P N : Type 0} → List (Obl P × Mark P N) → List (Obl P × Mark P N) → Obl P → Type 0
-AddsUntaken old new o = (HasKey old o × (new ≡ old)) ⊎ ((¬ HasKey old o) × (new ≡ old ++ (o, Untaken) ∷ []))
-
--- Each of the obligations is there afterwards, and those that weren't are new at the end and untaken.
-pub record AddsEach {P N : Type 0} (os : List (Obl P)) (old new : List (Obl P × Mark P N)) : Type 0 where
-  pub more : List (Obl P × Mark P N)
-  pub extends : new ≡ old ++ more
-  pub there : (o : Obl P) → Contains os o → HasKey new o
-  pub fresh : (o : Obl P) (m : Mark P N) → Contains more (o, m) → (m ≡ Untaken) × Contains os o × ¬ HasKey old o
-  pub apart : AreApart (map (λ e. e.0) old) → AreApart (map (λ e. e.0) new)
-
--- which marks a remark means, and what they become
-abbrev pub old_mark : {P N : Type 0} → Remark P N → Mark P N
-old_mark (r.Take file) = Untaken
-old_mark (r.Settle o v) = Taken
-old_mark (r.PutBack file) = Taken
-
-abbrev pub new_mark : {P N : Type 0} → Remark P N → Mark P N
-new_mark (r.Take file) = Taken
-new_mark (r.Settle o v) = Settled v
-new_mark (r.PutBack file) = Untaken
-
-abbrev pub IsMeant : {P N T : Type 0} → Book P N T → Remark P N → Obl P → Type 0
-IsMeant b (r.Take file) o = file_of_obl b o ≡ file
-IsMeant b (r.Settle p v) o = o ≡ p
-IsMeant b (r.PutBack file) o = file_of_obl b o ≡ file
-
--- what a remark makes of one mark
-abbrev pub IsMarkAfter : {P N T : Type 0} → Book P N T → Remark P N → Obl P → Mark P N → Mark P N → Type 0
-IsMarkAfter b r o old new = (((old ≡ old_mark r) × IsMeant b r o) × (new ≡ new_mark r)) ⊎ ((¬ ((old ≡ old_mark r) × IsMeant b r o)) × (new ≡ old))
-
--- Each mark is what the remark makes of it.
-pub record IsRemarked {P N T : Type 0} (b : Book P N T) (r : Remark P N) (old new : List (Obl P × Mark P N)) : Type 0 where
-  pub length_same : length new ≡ length old
-  pub each : (k : ℕ) (d : Obl P × Mark P N) → k < length old → ((slice_index_or new k d).0 ≡ (slice_index_or old k d).0) × IsMarkAfter b r (slice_index_or old k d).0 (slice_index_or old k d).1 (slice_index_or new k d).1
-
--- the functions' own obligations, up to a function
-abbrev pub primaries_of : {P N T : Type 0} → Book P N T → FunNo → List (Obl P)
-primaries_of b f = map (λ p. record { fun = f; node = p.0; cause = Primary p.1 }) (b.primaries f)
-
-abbrev pub primaries_below : {P N T : Type 0} → Book P N T → ℕ → List (Obl P)
-primaries_below b zero = []
-primaries_below b (suc n) = primaries_below b n ++ primaries_of b (record { 0 = n })
-
--- the obligations at call sites that support a predicate
-abbrev pub supports_of : {P : Type 0} → P → List (FunNo × NodeNo) → List (Obl P)
-supports_of q sites = map (λ s. record { fun = s.0; node = s.1; cause = Support q }) sites
+pub use Rattle.po_marks.specs.Known.{HasKey, HasVerdict, AddsUntaken, AddsEach, AreRemarked, primaries_of, primaries_below, supports_of}
+pub use Rattle.po_marks.specs.Waiting.{TakesFrom}
 
 -- the file is held
 abbrev pub HandAt : {P : Type 0} → List (Option (Hand P)) → FileNo → Type 0
 HandAt {P} hands file = (hand : Hand P) × (slice_get hands file.0 ≡ Some (Some hand))
 
--- each untaken obligation is in a file that is held
-abbrev pub NoneTakeable : {P N T : Type 0} → Book P N T → List (Obl P × Mark P N) → List (Option (Hand P)) → Type 0
-NoneTakeable {P} b marks hands = (o : Obl P) → Contains marks (o, Untaken) → HandAt hands (file_of_obl b o)
-
--- the obligation is new at the end where it is untaken and of the file, and else nothing changes
-abbrev pub PushesUntaken : {P N T : Type 0} → Book P N T → FileNo → (Obl P × Mark P N) → List (Obl P) → List (Obl P) → Type 0
-PushesUntaken b file e old new = (((e.1 ≡ Untaken) × (file_of_obl b e.0 ≡ file)) × (new ≡ old ++ e.0 ∷ [])) ⊎ ((¬ ((e.1 ≡ Untaken) × (file_of_obl b e.0 ≡ file))) × (new ≡ old))
-
--- Just the untaken obligations of a file, each once.
-pub record TakesFrom {P N T : Type 0} (b : Book P N T) (marks : List (Obl P × Mark P N)) (file : FileNo) (items : List (Obl P)) : Type 0 where
-  pub all : (o : Obl P) → Contains items o ↔ (Contains marks (o, Untaken) × (file_of_obl b o ≡ file))
-  pub once : AreApart items
+-- the file is held, or nothing that waits in it is untaken
+abbrev pub IsIdle : {P N : Type 0} → Marking P N → List (Option (Hand P)) → FileNo → Type 0
+IsIdle {P} m hands file = (¬ HandAt hands file) → (q : Queue P) → slice_get m.queues file.0 ≡ Some q → (o : Obl P) → Contains (all_of q) o → ¬ Contains m.items (o, Untaken)
 
 -- the item is there already, or is new at the end
 abbrev pub AddsItem : {X : Type 0} → List X → List X → X → Type 0
@@ -119,10 +56,6 @@ abbrev pub AddsLine : {P N : Type 0} → (Obl P × Mark P N) → List (Obl P × 
 AddsLine (o, Settled v) old new = new ≡ old ++ (o, v) ∷ []
 AddsLine (o, Untaken) old new = new ≡ old
 AddsLine (o, Taken) old new = new ≡ old
-
--- the list of marks has a verdict of the obligation
-abbrev pub HasVerdict : {P N : Type 0} → List (Obl P × Mark P N) → Obl P → Type 0
-HasVerdict {P} {N} marks o = (v : Verdict P N) × Contains marks (o, Settled v)
 
 -- each item that is settled in a hand has a verdict, and each other has none
 abbrev pub AgreesOn : {P N : Type 0} → List (Obl P × Mark P N) → List (Obl P × Bool) → Type 0

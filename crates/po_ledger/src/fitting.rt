@@ -1,11 +1,12 @@
-ghost use Rattle.std.specs.Prelude.{◌≡◌, ◌↔◌, Some, slice_get, IsTrue, IfSome, IfNone};
+ghost use Rattle.std.specs.Prelude.{◌≡◌, ◌↔◌, Some, slice_get, map, IsTrue, IfSome, IfNone};
+ghost use Rattle.po_core.specs.Core.{AreApart};
 ghost use Rattle.po_ledger.specs.Parts.{HandAt, HasVerdict, AgreesOn, IsHandOf};
 ghost use Rattle.po_ledger.specs.View.{items_of};
 
-use crate::known::{Known, has_verdict};
-use crate::marks::is_same;
+use crate::same::is_same;
 use po_base::FileNo;
 use po_core::{Hand, Obl, Rulebook};
+use po_marks::{Entries, has_verdict};
 
 /// The hand that holds a file, where it is held, in constant time.
 pub(crate) fn hand_at<P: Copy>(hands: &[Option<Hand<P>>], file: FileNo) -> Option<&Hand<P>>
@@ -18,16 +19,16 @@ pub(crate) fn hand_at<P: Copy>(hands: &[Option<Hand<P>>], file: FileNo) -> Optio
     }
 }
 
-/// Whether a hand that the ledger keeps is that of a worker's ticket. Time: the number of the ticket's obligations times the
-/// logarithm of that of known obligations.
+/// Whether a hand that the ledger keeps is that of a worker's ticket. Time: the number of the ticket's obligations, on the average.
 pub(crate) fn is_hand_of<R: Rulebook>(
     book: &R,
-    marks: &Known<R::Pred, R::Rule>,
+    marks: &Entries<R::Pred, R::Rule>,
     hand: &Hand<R::Pred>,
     worker: u8,
     own: &[(Obl<R::Pred>, bool)],
 ) -> bool
-    ensures { IsTrue result ↔ IsHandOf marks.now.items hand.now worker own.now }
+    requires { AreApart (map (λ e. e.0) marks.now.entries) }
+    ensures { IsTrue result ↔ IsHandOf marks.now.entries hand.now worker own.now }
 {
     if hand.worker == worker {
         if are_items(book, hand.items.as_slice(), own) {
@@ -62,10 +63,11 @@ fn is_item<R: Rulebook>(book: &R, item: &Obl<R::Pred>, entry: &(Obl<R::Pred>, bo
 /// Whether each settled item of a hand has a verdict, and each other has none.
 fn agree_on<R: Rulebook>(
     book: &R,
-    marks: &Known<R::Pred, R::Rule>,
+    marks: &Entries<R::Pred, R::Rule>,
     own: &[(Obl<R::Pred>, bool)],
 ) -> bool
-    ensures { IsTrue result ↔ AgreesOn marks.now.items own.now }
+    requires { AreApart (map (λ e. e.0) marks.now.entries) }
+    ensures { IsTrue result ↔ AgreesOn marks.now.entries own.now }
 {
     for at in 0..own.len() {
         if !agrees(book, marks, &own[at]) {
@@ -78,10 +80,11 @@ fn agree_on<R: Rulebook>(
 /// Whether an item is settled just where it has a verdict.
 fn agrees<R: Rulebook>(
     book: &R,
-    marks: &Known<R::Pred, R::Rule>,
+    marks: &Entries<R::Pred, R::Rule>,
     entry: &(Obl<R::Pred>, bool),
 ) -> bool
-    ensures { IsTrue result ↔ (IsTrue entry.now.1 ↔ HasVerdict marks.now.items entry.now.0) }
+    requires { AreApart (map (λ e. e.0) marks.now.entries) }
+    ensures { IsTrue result ↔ (IsTrue entry.now.1 ↔ HasVerdict marks.now.entries entry.now.0) }
 {
     entry.1 == has_verdict(book, marks, &entry.0)
 }

@@ -13,14 +13,11 @@ ghost use Rattle.po_ledger.specs.View.{Fits, IsLedger};
 
 use crate::assumed::Assumed;
 use crate::fitting::{hand_at, is_hand_of};
-use crate::known::{Known, change, first_marks, settle_mark};
 use crate::log::{Log, append, into_events, make_room, no_events};
-use crate::marks::Remark;
 use crate::naming::Naming;
 use crate::next::{Next, ReportFail};
 use crate::parts::{
-    all_open, any_held, empty_shelves, extend, is_held, no_hands, set_hand, swap_shelf, takeable,
-    untaken_of, untaken_places,
+    any_held, empty_shelves, extend, free_hand, is_held, no_hands, set_hand, swap_shelf, takeable,
 };
 use crate::report::{
     ascending_assumptions, ascending_lines, held_count, is_some_left, untaken_count,
@@ -32,6 +29,7 @@ use po_core::{
     Event, Hand, Journal, Obl, Report, Rulebook, Verdict, legal_lists_are_orderly,
     quiet_lists_are_least,
 };
+use po_marks::{Drawn, Entries, Marks, draw, first_marks, put_back, room_to_draw, settle};
 use std::alloc::Global;
 use std::marker::{Model, PhantomData};
 
@@ -41,12 +39,12 @@ use std::marker::{Model, PhantomData};
 /// Each call that changes a ledger is one legal event and appends just it to the journal, so the journal is
 /// legal from the start and replays to the ledger's state, whoever called in which order.
 ///
-/// The ledger's rest are the obligations, in the order in which they became known, from the first on that wasn't settled
-/// when a file was last taken or put back. All that is untaken is of it, and the times below speak of it.
+/// Each known obligation is found by a hash of it, and those that are untaken wait in a queue of their file. The times below are
+/// those on the average over many calls.
 #[derive(Drop)]
 pub struct Ledger<'r, R: Rulebook, J: Naming<R::Pred, R::Rule, R::Table>> {
     book: &'r R,
-    marks: Known<R::Pred, R::Rule>,
+    marks: Marks<R::Pred, R::Rule>,
     hands: Vec<Option<Hand<R::Pred>>>,
     assumed: Assumed<R::Pred>,
     shelves: Vec<Tables<R::Table>>,
@@ -55,13 +53,14 @@ pub struct Ledger<'r, R: Rulebook, J: Naming<R::Pred, R::Rule, R::Table>> {
 }
 
 impl<'r, R: Rulebook, J: Naming<R::Pred, R::Rule, R::Table>> Model for Ledger<'r, R, J> {
+    ghost use Rattle.po_ledger.specs.Queued.{IsQueued};
     ghost use Rattle.po_ledger.specs.View.{LedgerView, view_of, IsKept};
 
     ghost Value = { LedgerView R.Pred R.Rule R.Table };
 
     ghost view = { λ l. view_of l.marks.items l.hands.items l.assumed.items l.journal.items l.journal.spare l.shelves.items };
 
-    ghost invariant = { λ l. IsKept J.book (R.meaning l.book.now) (view_of l.marks.items l.hands.items l.assumed.items l.journal.items l.journal.spare l.shelves.items) l.shelves.items };
+    ghost invariant = { λ l. IsKept J.book (R.meaning l.book.now) (view_of l.marks.items l.hands.items l.assumed.items l.journal.items l.journal.spare l.shelves.items) l.shelves.items × IsQueued J.book l.marks l.hands.items };
 }
 
 impl<'r, R: Rulebook, J: Naming<R::Pred, R::Rule, R::Table>> Ledger<'r, R, J> {
@@ -109,6 +108,13 @@ impl<'r, R: Rulebook, J: Naming<R::Pred, R::Rule, R::Table>> Ledger<'r, R, J> {
         legal_lists_are_orderly(self.book);
     }
 
+    /// Each known obligation with how far it has come, in the order in which they became known. It takes no memory, and constant time.
+    pub fn known(&self) -> &Entries<R::Pred, R::Rule>
+        ensures { result.now.entries ≡ self.now.state.marks }
+    {
+        self.marks.known()
+    }
+
     /// Whether a file is held, in constant time.
     pub fn held(&self, file: FileNo) -> bool
         ensures { IsTrue result ↔ IsHeld self.now.state file }
@@ -117,13 +123,12 @@ impl<'r, R: Rulebook, J: Naming<R::Pred, R::Rule, R::Table>> Ledger<'r, R, J> {
     }
 
     /// Whether a ticket is still good: its worker holds its file in this ledger, and the ledger's hand, with what is
-    /// settled, is the ticket's. It takes no memory. Time: the number of the ticket's obligations times the logarithm of
-    /// that of known obligations.
+    /// settled, is the ticket's. It takes no memory. Time: the number of the ticket's obligations.
     pub fn fits(&self, t: &Ticket<R, J>) -> bool
         ensures { IsTrue result ↔ Fits self.now.state t.now }
     {
         match hand_at(self.hands.as_slice(), t.file()) {
-            Some(hand) => is_hand_of(self.book, &self.marks, hand, t.worker(), t.hand()),
+            Some(hand) => is_hand_of(self.book, self.marks.known(), hand, t.worker(), t.hand()),
             None => false,
         }
     }
@@ -138,7 +143,8 @@ impl<'r, R: Rulebook, J: Naming<R::Pred, R::Rule, R::Table>> Ledger<'r, R, J> {
 
     /// Gives a worker all that is untaken in some file, which it holds from then on; or says that it has to wait,
     /// as some file is held and no other has untaken obligations; or that all is done. After `Memory` nothing has
-    /// changed. Time: the number of the rest and of files.
+    /// changed. Time: the number of the obligations that it hands out, of those that were put back in the file and settled
+    /// since, and of files.
     pub fn take(&mut self, alloc: Global, worker: u8) -> Result<Next<R, J>, Memory>
         ensures ok { IfOk result (Answers J.book worker self.old self.new) }
         ensures err { OnErr result (self.new ≡ self.old) }
@@ -166,7 +172,7 @@ impl<'r, R: Rulebook, J: Naming<R::Pred, R::Rule, R::Table>> Ledger<'r, R, J> {
         ensures none { IfNone result ((file : FileNo) → ¬ CanTake J.book self.now.state file) }
     {
         legal_lists_are_orderly(self.book);
-        takeable(self.book, self.marks.left(), self.hands.as_slice())
+        takeable(self.book, &self.marks, self.hands.as_slice())
     }
 
     /// Whether some file is held.
@@ -176,8 +182,7 @@ impl<'r, R: Rulebook, J: Naming<R::Pred, R::Rule, R::Table>> Ledger<'r, R, J> {
         any_held(self.hands.as_slice())
     }
 
-    /// Whether all is done: no file is held and nothing is untaken. It takes no memory. Time: the number of the
-    /// rest and of files.
+    /// Whether all is done: no file is held and nothing is untaken. It takes no memory. Time: the number of files.
     pub fn quiet(&self) -> bool
         ensures { IsTrue result ↔ IsQuiet self.now.state }
     {
@@ -197,7 +202,7 @@ impl<'r, R: Rulebook, J: Naming<R::Pred, R::Rule, R::Table>> Ledger<'r, R, J> {
         ensures { Reports J.book R.Pred.cmp self.now.state result }
     {
         let held = held_count(self.hands.as_slice(), self.book.files());
-        let untaken = untaken_count(self.marks.as_slice());
+        let untaken = untaken_count(self.marks.known());
         if is_some_left(held, untaken) {
             return Err(ReportFail::NotQuiet { held, untaken });
         }
@@ -211,7 +216,7 @@ impl<'r, R: Rulebook, J: Naming<R::Pred, R::Rule, R::Table>> Ledger<'r, R, J> {
     {
         quiet_lists_are_least(self.book);
         legal_lists_are_orderly(self.book);
-        let lines = ascending_lines(alloc, self.book, self.marks.as_slice())?;
+        let lines = ascending_lines(alloc, self.book, self.marks.known())?;
         let assumptions = ascending_assumptions(alloc, self.book, self.assumed.as_slice())?;
         Ok(Report { lines, assumptions })
     }
@@ -224,20 +229,18 @@ impl<'r, R: Rulebook, J: Naming<R::Pred, R::Rule, R::Table>> Ledger<'r, R, J> {
         ensures tables { IfOk result (HandsTables self.old self.new) }
     {
         legal_lists_are_orderly(self.book);
-        let items = untaken_of(alloc, self.book, self.marks.left(), file)?;
-        let hand = all_open(alloc, items.as_slice())?;
-        let first = self.marks.first_left();
-        let places = untaken_places(alloc, self.book, self.marks.left(), first, file)?;
-        make_room(&mut self.journal, items.len(), 3)?;
-        change(self.book, &mut self.marks, &Remark::Take(file));
+        let (count, mut drawn) = room_to_draw(alloc, &self.marks, file)?;
+        make_room(&mut self.journal, count, 3)?;
+        draw(alloc, self.book, &mut self.marks, file, &mut drawn);
+        let Drawn { items, hand } = drawn;
+        let items = items.into_list();
         append(&mut self.journal, Event::Take { worker, file });
         set_hand(&mut self.hands, file, Some(Hand { worker, items }));
         let tables = swap_shelf(&mut self.shelves, file, Tables::new(alloc));
         Ok(Ticket {
             worker,
             file,
-            hand,
-            places,
+            hand: hand.into_list(),
             tables,
             named: PhantomData,
         })
@@ -257,8 +260,7 @@ impl<'r, R: Rulebook, J: Naming<R::Pred, R::Rule, R::Table>> Ledger<'r, R, J> {
 
     /// Assumes the predicate `q` of the function of an item of a ticket, whose verdict delegates to it: each call
     /// of the function has its supporting obligation afterwards, and those that are new are untaken. After
-    /// `Memory` nothing has changed. Time: the logarithm of the number of assumptions, and the number of the calls times
-    /// the logarithm of that of known obligations.
+    /// `Memory` nothing has changed. Time: the logarithm of the number of assumptions, and the number of the calls.
     pub fn post(
         &mut self,
         alloc: Global,
@@ -278,7 +280,7 @@ impl<'r, R: Rulebook, J: Naming<R::Pred, R::Rule, R::Table>> Ledger<'r, R, J> {
         let file = t.file();
         let pred = *q;
         let sites = self.book.call_sites(alloc, obl.fun)?;
-        let known = self.marks.as_slice().len();
+        let known = self.marks.known().len();
         match extend(
             self.book,
             &mut self.marks,
@@ -300,7 +302,7 @@ impl<'r, R: Rulebook, J: Naming<R::Pred, R::Rule, R::Table>> Ledger<'r, R, J> {
     }
 
     /// Settles an item of a ticket with its verdict; where that delegates, the predicate is assumed already. It
-    /// takes no memory. Time: constant, since the ticket keeps the place of the item's mark.
+    /// takes no memory, and constant time.
     pub fn settle(&mut self, t: &mut Ticket<R, J>, k: usize, v: Verdict<R::Pred, R::Rule>)
         requires within { k < length t.old.hand }
         requires can { CanSettle J.book self.old.state t.old k v }
@@ -309,7 +311,7 @@ impl<'r, R: Rulebook, J: Naming<R::Pred, R::Rule, R::Table>> Ledger<'r, R, J> {
         legal_lists_are_orderly(self.book);
         let obl = *t.item(k);
         let file = t.file();
-        settle_mark(self.book, &mut self.marks, t.mark_hint(k), obl, v);
+        settle(self.book, &mut self.marks, obl, v);
         append(
             &mut self.journal,
             Event::Settle {
@@ -338,15 +340,15 @@ impl<'r, R: Rulebook, J: Naming<R::Pred, R::Rule, R::Table>> Ledger<'r, R, J> {
     }
 
     /// Makes a file free, whoever holds it: what isn't settled of its hand is untaken again. A ticket of the file
-    /// doesn't fit from then on, at least until its worker holds the file again. It takes no memory. Time: the number
-    /// of the rest.
+    /// doesn't fit from then on, at least until its worker holds the file again. It takes no memory. Time: the number of the
+    /// obligations of the hand that held it.
     pub fn put_back(&mut self, file: FileNo)
         requires { IsHeld self.old.state file }
         ensures { Does J.book (PutBack file) self.old self.new }
     {
         legal_lists_are_orderly(self.book);
-        change(self.book, &mut self.marks, &Remark::PutBack(file));
-        set_hand(&mut self.hands, file, None);
+        let Hand { items, .. } = free_hand(&mut self.hands, file);
+        put_back(self.book, &mut self.marks, file, items);
         append(&mut self.journal, Event::PutBack { file });
     }
 }

@@ -5,15 +5,13 @@
 
 mod assumed;
 mod fitting;
-mod known;
 mod ledger;
 mod log;
-mod marks;
 mod naming;
 mod next;
 mod parts;
-mod places;
 mod report;
+mod same;
 mod settling;
 mod shelf;
 mod ticket;

@@ -2,18 +2,20 @@ ghost use Rattle.std.specs.Prelude.{◌≡◌, ◌≤◌, ◌<◌, ◌+◌, ◌-
 ghost use Rattle.std.specs.List.{Contains};
 ghost use Rattle.po_base.specs.declared.numbers.FileNo.{FileNo};
 ghost use Rattle.po_base.specs.declared.numbers.FunNo.{FunNo};
-ghost use Rattle.po_core.specs.Book.{file_of_obl};
 ghost use Rattle.po_core.specs.Core.{AreApart};
 ghost use Rattle.po_core.specs.declared.event.Mark.TheVariants.{Untaken};
 ghost use Rattle.po_core.specs.declared.obl.Obl.{Obl};
-ghost use Rattle.po_ledger.specs.Parts.{HasKey, AddsEach, TakesFrom, HandAt, NoneTakeable, PushesUntaken, AddsItem, supports_of};
+ghost use Rattle.po_base.specs.declared.numbers.NodeNo.{NodeNo};
+ghost use Rattle.po_ledger.specs.Parts.{AddsEach, HandAt, IsIdle, AddsItem, supports_of};
+ghost use Rattle.po_marks.specs.Waiting.{AreWaiting, KeepsBacks, all_of};
+ghost use Rattle.po_marks.specs.declared.queue.Queue.{Queue};
 
 use crate::assumed::{Assumed, assume};
-use crate::known::{Known, add_supports};
 use crate::log::{Log, make_room, take_room};
 use crate::shelf::Tables;
 use po_base::{FileNo, FunNo, List, Memory, NodeNo};
-use po_core::{Hand, Mark, Obl, Rulebook};
+use po_core::{Hand, Obl, Rulebook};
+use po_marks::{Marks, add_supports, first_untaken};
 use std::alloc::Global;
 use std::mem;
 
@@ -46,151 +48,59 @@ pub(crate) fn any_held<P: Copy>(hands: &[Option<Hand<P>>]) -> bool
     false
 }
 
-/// The file of an obligation, where it is untaken and its file isn't held.
-fn takeable_file<R: Rulebook>(
+/// An untaken obligation of a file that isn't held, where there is one.
+fn takeable_in<R: Rulebook>(
     book: &R,
+    marks: &Marks<R::Pred, R::Rule>,
     hands: &[Option<Hand<R::Pred>>],
-    entry: &(Obl<R::Pred>, Mark<R::Pred, R::Rule>),
-) -> Option<FileNo>
-    requires { entry.now.0.fun.0 < (R.meaning book.now).functions }
-    ensures some { IfSome result (λ file. (entry.now.1 ≡ Untaken) × (file_of_obl (R.meaning book.now) entry.now.0 ≡ file) × ¬ HandAt hands.now file) }
-    ensures none { IfNone result (entry.now.1 ≡ Untaken → HandAt hands.now (file_of_obl (R.meaning book.now) entry.now.0)) }
+    file: FileNo,
+) -> Option<Obl<R::Pred>>
+    requires apart { AreApart (map (λ e. e.0) marks.now.items) }
+    requires there { file.0 < length marks.now.queues }
+    ensures some { IfSome result (λ o. (¬ HandAt hands.now file) × Contains marks.now.items (o, Untaken) × ((q : Queue R.Pred) → slice_get marks.now.queues file.0 ≡ Some q → Contains (all_of q) o)) }
+    ensures none { IfNone result (IsIdle marks.now hands.now file) }
 {
-    if is_untaken(entry.1) {
-        let file = book.file_of(entry.0.fun);
-        if is_held(hands, file) {
-            return None;
-        }
-        return Some(file);
+    if is_held(hands, file) {
+        return None;
     }
-    None
+    first_untaken(book, marks, file)
 }
 
-/// Whether a mark says that an obligation is untaken.
-pub(crate) fn is_untaken<P: Copy, N: Copy>(mark: Mark<P, N>) -> bool
-    ensures { IsTrue result ↔ (mark ≡ Untaken) }
-{
-    match mark {
-        Mark::Untaken => true,
-        _ => false,
-    }
-}
-
-/// A file that can be taken, where there is one. Time: the number of marks.
+/// A file that can be taken, where there is one. Time: the number of files before it.
 pub(crate) fn takeable<R: Rulebook>(
     book: &R,
-    marks: &[(Obl<R::Pred>, Mark<R::Pred, R::Rule>)],
+    marks: &Marks<R::Pred, R::Rule>,
     hands: &[Option<Hand<R::Pred>>],
 ) -> Option<FileNo>
-    requires { (o : Obl R.Pred) → HasKey marks.now o → o.fun.0 < (R.meaning book.now).functions }
-    ensures some { IfSome result (λ file. (¬ HandAt hands.now file) × ((o : Obl R.Pred) × Contains marks.now (o, Untaken) × (file_of_obl (R.meaning book.now) o ≡ file))) }
-    ensures none { IfNone result (NoneTakeable (R.meaning book.now) marks.now hands.now) }
+    requires apart { AreApart (map (λ e. e.0) marks.now.items) }
+    requires there { length marks.now.queues ≡ (R.meaning book.now).files }
+    ensures some { IfSome result (λ file. (file.0 < length marks.now.queues) × (¬ HandAt hands.now file) × ((o : Obl R.Pred) × Contains marks.now.items (o, Untaken) × ((q : Queue R.Pred) → slice_get marks.now.queues file.0 ≡ Some q → Contains (all_of q) o))) }
+    ensures none { IfNone result ((file : FileNo) → file.0 < length marks.now.queues → IsIdle marks.now hands.now file) }
 {
-    for i in 0..marks.len() {
-        let entry = marks[i];
-        if let Some(file) = takeable_file(book, hands, &entry) {
+    for number in 0..book.files() {
+        let file = FileNo(number);
+        if let Some(_untaken) = takeable_in(book, marks, hands, file) {
             return Some(file);
         }
     }
     None
 }
 
-/// Whether an obligation is untaken and of a file.
-fn is_untaken_in<R: Rulebook>(
-    book: &R,
-    entry: &(Obl<R::Pred>, Mark<R::Pred, R::Rule>),
-    file: FileNo,
-) -> bool
-    requires { entry.now.0.fun.0 < (R.meaning book.now).functions }
-    ensures { IsTrue result ↔ ((entry.now.1 ≡ Untaken) × (file_of_obl (R.meaning book.now) entry.now.0 ≡ file)) }
-{
-    if is_untaken(entry.1) {
-        return book.file_of(entry.0.fun) == file;
-    }
-    false
-}
-
-/// Puts an obligation to others, where it is untaken and of a file.
-fn push_untaken<R: Rulebook>(
-    book: &R,
-    items: &mut List<Obl<R::Pred>>,
-    entry: &(Obl<R::Pred>, Mark<R::Pred, R::Rule>),
-    file: FileNo,
-) -> Result<(), Memory>
-    requires { entry.now.0.fun.0 < (R.meaning book.now).functions }
-    ensures { OnOk result (PushesUntaken (R.meaning book.now) file entry.now items.old items.new) }
-{
-    if is_untaken_in(book, entry, file) {
-        return items.push(entry.0);
-    }
-    Ok(())
-}
-
-/// The untaken obligations of a file. Time: the number of marks.
-pub(crate) fn untaken_of<R: Rulebook>(
-    alloc: Global,
-    book: &R,
-    marks: &[(Obl<R::Pred>, Mark<R::Pred, R::Rule>)],
-    file: FileNo,
-) -> Result<List<Obl<R::Pred>>, Memory>
-    requires there { (o : Obl R.Pred) → HasKey marks.now o → o.fun.0 < (R.meaning book.now).functions }
-    requires apart { AreApart (map (λ e. e.0) marks.now) }
-    ensures { IfOk result (λ items. TakesFrom (R.meaning book.now) marks.now file items) }
-{
-    let mut items = List::new(alloc);
-    for i in 0..marks.len() {
-        let entry = marks[i];
-        push_untaken(book, &mut items, &entry, file)?;
-    }
-    Ok(items)
-}
-
-/// Where the untaken obligations of a file stand among the marks, in their order, where the first mark stands at a place: a
-/// hint, on which no answer rests. Time: the number of marks.
-pub(crate) fn untaken_places<R: Rulebook>(
-    alloc: Global,
-    book: &R,
-    marks: &[(Obl<R::Pred>, Mark<R::Pred, R::Rule>)],
-    first: usize,
-    file: FileNo,
-) -> Result<List<usize>, Memory>
-    requires { (o : Obl R.Pred) → HasKey marks.now o → o.fun.0 < (R.meaning book.now).functions }
-{
-    let mut places = List::new(alloc);
-    for i in 0..marks.len() {
-        let entry = marks[i];
-        if is_untaken_in(book, &entry, file) {
-            places.push(first.saturating_add(i))?;
-        }
-    }
-    Ok(places)
-}
-
-/// A hand of obligations, none of them settled.
-pub(crate) fn all_open<P: Copy>(
-    alloc: Global,
-    items: &[Obl<P>],
-) -> Result<List<(Obl<P>, bool)>, Memory>
-    ensures { IfOk result (λ hand. hand ≡ map (λ o. (o, false)) items.now) }
-{
-    let mut hand = List::new(alloc);
-    for item in items {
-        hand.push((*item, false))?;
-    }
-    Ok(hand)
-}
-
 /// What a post adds: the assumption, the obligations at the call sites, and room for one more event. After `Memory`
 /// some obligations may have been added; all else is as it was.
 pub(crate) fn extend<R: Rulebook>(
     book: &R,
-    marks: &mut Known<R::Pred, R::Rule>,
+    marks: &mut Marks<R::Pred, R::Rule>,
     assumed: &mut Assumed<R::Pred>,
     journal: &mut Log<R::Pred, R::Rule>,
     sites: &[(FunNo, NodeNo)],
     f: FunNo,
     q: R::Pred,
 ) -> Result<(), Memory>
+    requires there { (g : FunNo) (n : NodeNo) → Contains sites.now (g, n) → g.0 < (R.meaning book.now).functions }
+    requires waiting { AreWaiting (R.meaning book.now) marks.old }
+    ensures waiting { AreWaiting (R.meaning book.now) marks.new }
+    ensures backs { KeepsBacks marks.old.queues marks.new.queues }
     ensures marks { OnOk result (AddsEach (supports_of q sites.now) marks.old.items marks.new.items) }
     ensures assumed { OnOk result (AddsItem assumed.old.items assumed.new.items (f, q)) }
     ensures journal { journal.new.items ≡ journal.old.items }
@@ -248,6 +158,18 @@ pub(crate) fn set_hand<P: Copy>(
     ensures { hands.new.items ≡ slice_set hands.old.items file.0 hand }
 {
     hands[file.0 as usize] = hand;
+}
+
+/// Makes a file free, and hands out the hand that held it.
+pub(crate) fn free_hand<P: Copy>(hands: &mut Vec<Option<Hand<P>>>, file: FileNo) -> Hand<P>
+    requires { HandAt hands.old.items file }
+    ensures after { hands.new.items ≡ slice_set hands.old.items file.0 None }
+    ensures before { slice_get hands.old.items file.0 ≡ Some (Some result) }
+{
+    let Some(hand) = mem::replace(&mut hands[file.0 as usize], None) else {
+        unreachable!()
+    };
+    hand
 }
 
 /// Puts tables to a file's place, and hands out those that were there.

@@ -7,10 +7,12 @@ ghost use Rattle.po_core.specs.declared.event.Mark.TheVariants.{Untaken};
 ghost use Rattle.po_ledger.specs.Calls.{Counts};
 ghost use Rattle.po_ledger.specs.Parts.{AddsLine, AreLines, AreSame, AreSorted, HandAt, ListsVerdicts};
 
-use crate::parts::{is_held, is_untaken};
+use crate::parts::is_held;
 use po_base::{FileNo, FunNo, List, Memory};
 use po_core::{Hand, Mark, Obl, Rulebook, Verdict};
+use po_marks::{Entries, entry_at};
 use std::alloc::Global;
+use std::hash::Hash;
 
 /// A line of a report: an obligation with its verdict.
 type Line<P, N> = (Obl<P>, Verdict<P, N>);
@@ -29,14 +31,24 @@ pub(crate) fn held_count<P: Copy>(hands: &[Option<Hand<P>>], files: u32) -> u32
     held
 }
 
+/// Whether a mark says that an obligation is untaken.
+fn is_untaken<P: Copy, N: Copy>(mark: Mark<P, N>) -> bool
+    ensures { IsTrue result ↔ (mark ≡ Untaken) }
+{
+    match mark {
+        Mark::Untaken => true,
+        _ => false,
+    }
+}
+
 /// How many obligations are untaken. Time: the number of known obligations.
-pub(crate) fn untaken_count<P: Copy, N: Copy>(marks: &[(Obl<P>, Mark<P, N>)]) -> u64
-    requires { AreApart (map (λ e. e.0) marks.now) }
-    ensures { Counts (λ o. Contains marks.now (o, Untaken)) result }
+pub(crate) fn untaken_count<P: Copy + Eq + Hash, N: Copy>(marks: &Entries<P, N>) -> u64
+    requires { AreApart (map (λ e. e.0) marks.now.entries) }
+    ensures { Counts (λ o. Contains marks.now.entries (o, Untaken)) result }
 {
     let mut untaken = 0;
     for i in 0..marks.len() {
-        let entry = marks[i];
+        let entry = entry_at(marks, i);
         if is_untaken(entry.1) {
             untaken += 1;
         }
@@ -55,10 +67,10 @@ pub(crate) fn is_some_left(held: u32, untaken: u64) -> bool
 pub(crate) fn ascending_lines<R: Rulebook>(
     alloc: Global,
     book: &R,
-    marks: &[(Obl<R::Pred>, Mark<R::Pred, R::Rule>)],
+    marks: &Entries<R::Pred, R::Rule>,
 ) -> Result<List<Line<R::Pred, R::Rule>>, Memory>
-    requires { AreApart (map (λ e. e.0) marks.now) }
-    ensures all { IfOk result (ListsVerdicts marks.now) }
+    requires { AreApart (map (λ e. e.0) marks.now.entries) }
+    ensures all { IfOk result (ListsVerdicts marks.now.entries) }
     ensures ascend { IfOk result (AllPairs (λ x y. obl_cmp R.Pred.cmp x.0 y.0 ≡ Less)) }
 {
     let _book = book;
@@ -68,16 +80,16 @@ pub(crate) fn ascending_lines<R: Rulebook>(
 }
 
 /// The settled obligations with their verdicts. Time: the number of known obligations.
-fn settled_lines<P: Copy, N: Copy>(
+fn settled_lines<P: Copy + Eq + Hash, N: Copy>(
     alloc: Global,
-    marks: &[(Obl<P>, Mark<P, N>)],
+    marks: &Entries<P, N>,
 ) -> Result<Vec<Line<P, N>>, Memory>
-    requires { AreApart (map (λ e. e.0) marks.now) }
-    ensures { IfOk result (λ lines. AreLines marks.now lines.items) }
+    requires { AreApart (map (λ e. e.0) marks.now.entries) }
+    ensures { IfOk result (λ lines. AreLines marks.now.entries lines.items) }
 {
     let mut lines = Vec::new(alloc);
     for i in 0..marks.len() {
-        let entry = marks[i];
+        let entry = entry_at(marks, i);
         add_line(&mut lines, &entry)?;
     }
     Ok(lines)

@@ -18,7 +18,6 @@ pub struct Ticket<R: Rulebook, J: Naming<R::Pred, R::Rule, R::Table>> {
     pub(crate) worker: u8,
     pub(crate) file: FileNo,
     pub(crate) hand: List<(Obl<R::Pred>, bool)>,
-    pub(crate) places: List<usize>,
     pub(crate) tables: Tables<R::Table>,
     pub(crate) named: PhantomData<J>,
 }
@@ -69,14 +68,6 @@ impl<R: Rulebook, J: Naming<R::Pred, R::Rule, R::Table>> Ticket<R, J> {
         ensures { result.now ≡ self.now.hand }
     {
         self.hand.as_slice()
-    }
-
-    /// Where the ledger's mark of the item at a place of its hand may stand: a hint, on which no answer rests.
-    pub(crate) fn mark_hint(&self, k: usize) -> usize {
-        match self.places.get(k) {
-            Some(at) => *at,
-            None => 0,
-        }
     }
 
     /// The tables that were made so far, each that of its function.

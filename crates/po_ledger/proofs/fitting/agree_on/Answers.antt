@@ -6,7 +6,7 @@ use Rattle.po_ledger.proofs.Lists.{read_in}
 use Rattle.po_ledger.proofs.fitting.agree_on.Goals as goal
 
 pub loop-at-preserved : goal.loop-at-preserved
-loop-at-preserved g c = agree_more c.args.marks.now.items c.args.own.now c.loop-at.at c.index-own-at.result c.loop-at-test.true c.index-own-at.is c.loop-at.invariant (c.agrees.ensures.0 c.if-not-agrees.false)
+loop-at-preserved g c = agree_more c.args.marks.now.entries c.args.own.now c.loop-at.at c.index-own-at.result c.loop-at-test.true c.index-own-at.is c.loop-at.invariant (c.agrees.ensures.0 c.if-not-agrees.false)
 
 pub returns-then-not-agrees : goal.returns-then-not-agrees
 returns-then-not-agrees g c = (λ h. absurd (false≢true h), λ h. absurd (both_ways _ c.if-not-agrees.true (c.agrees.ensures.1 (h _ _ (read_in c.args.own.now c.loop-at.at c.index-own-at.result c.loop-at-test.true c.index-own-at.is)))))

@@ -1,6 +1,7 @@
-use Rattle.std.proofs.Common.{take}
-use Rattle.po_ledger.specs.Parts.{NoneTakeable}
+use Rattle.std.proofs.Common.{◌<◌}
+use Rattle.po_base.specs.declared.numbers.FileNo.{FileNo}
+use Rattle.po_ledger.specs.Parts.{IsIdle}
 use Rattle.po_ledger.proofs.parts.takeable.Given as goal
 
-abbrev pub invariant-loop-i : goal.invariant-loop-i
-invariant-loop-i g l = NoneTakeable (g.R.Rulebook.meaning l.book) (take l.i l.marks) l.hands
+abbrev pub invariant-loop-number : goal.invariant-loop-number
+invariant-loop-number g l = (file : FileNo) → file.0 < l.number → IsIdle l.marks l.hands file

@@ -3,4 +3,4 @@ use Rattle.po_ledger.specs.Parts.{AreLines}
 use Rattle.po_ledger.proofs.report.settled_lines.Given as goal
 
 abbrev pub invariant-loop-i : goal.invariant-loop-i
-invariant-loop-i g l = AreLines (take l.i l.marks) l.lines.items
+invariant-loop-i g l = AreLines (take l.i l.marks.entries) l.lines.items

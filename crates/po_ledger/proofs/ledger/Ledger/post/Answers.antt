@@ -1,22 +1,35 @@
 use Rattle.std.proofs.Common.{◌∙◌, ◌++◌, ◌∷◌, [], ap, refl, arith, length}
 use Rattle.po_core.specs.declared.event.Event.TheVariants.{Post}
-use Rattle.po_ledger.proofs.Posted.{post_there, post_keeps, posts_item, cut_back, same_view, kept_view}
+use Rattle.po_ledger.proofs.Queued.{queued_cut, queued_kept, waits_there}
+use Rattle.po_ledger.proofs.Posted.{callers_there, post_there, post_keeps, posts_item, cut_back, same_view, kept_view}
 use Rattle.po_ledger.proofs.ledger.Ledger.post.Goals as goal
 
 pub call_sites-requires : goal.call_sites-requires
-call_sites-requires g c = post_there _ _ _ _ c.self.invariant c.legal_lists_are_orderly.ensures c.args.t.now _ c.self.view_is c.args.k c.args.q.now c.requires.can c.item-obl.result.now c.item-obl.ensures
+call_sites-requires g c = post_there _ _ _ _ c.self.invariant.0 c.legal_lists_are_orderly.ensures c.args.t.now _ c.self.view_is c.args.k c.args.q.now c.requires.can c.item-obl.result.now c.item-obl.ensures
+
+pub extend-requires-clause-there : goal.extend-requires-clause-there
+extend-requires-clause-there g c = callers_there _ _ _ _ c.self.invariant.0 c.legal_lists_are_orderly.ensures c.args.t.now _ c.self.view_is c.args.k c.args.q.now c.requires.can c.item-obl.result.now c.item-obl.ensures _ (g.met.R.Rulebook.lawful c.self.inside.book.now) c.as_slice.result.now (c.as_slice.ensures ∙ c.in_ok-sites.ensures)
+
+pub extend-requires-clause-waiting : goal.extend-requires-clause-waiting
+extend-requires-clause-waiting g c = waits_there _ _ c.self.invariant.0.same_book _ c.self.invariant.1.waiting
 
 pub append-requires : goal.append-requires
 append-requires g c = omega (arith, c.in-Ok.ensures.room)
 
 pub invariant_of-self : goal.invariant_of-self
-invariant_of-self g c = post_keeps _ _ _ _ c.self.invariant c.legal_lists_are_orderly.ensures c.args.t.now _ c.self.view_is c.args.k c.args.q.now c.requires.can c.item-obl.result.now c.item-obl.ensures _ c.file-file.result c.file-file.ensures c.as_slice.result.now (c.as_slice.ensures ∙ c.in_ok-sites.ensures) c.in-Ok.ensures.marks c.in-Ok.ensures.assumed refl (c.append.ensures.items ∙ ap (λ z. z ++ Post c.file-file.result c.item-obl.result.now c.args.q.now ∷ []) c.in-Ok.ensures.journal) (omega (arith, c.in-Ok.ensures.room, c.append.ensures.room))
+invariant_of-self g c = (
+  post_keeps _ _ _ _ c.self.invariant.0 c.legal_lists_are_orderly.ensures c.args.t.now _ c.self.view_is c.args.k c.args.q.now c.requires.can c.item-obl.result.now c.item-obl.ensures _ c.file-file.result c.file-file.ensures c.as_slice.result.now (c.as_slice.ensures ∙ c.in_ok-sites.ensures) c.in-Ok.ensures.marks c.in-Ok.ensures.assumed refl (c.append.ensures.items ∙ ap (λ z. z ++ Post c.file-file.result c.item-obl.result.now c.args.q.now ∷ []) c.in-Ok.ensures.journal) (omega (arith, c.in-Ok.ensures.room, c.append.ensures.room)),
+  queued_kept _ _ c.self.invariant.0.same_book _ _ _ c.self.invariant.1 c.extend.ensures.waiting c.extend.ensures.backs,
+)
 
 pub returns-in-Ok-clause-ok : goal.returns-in-Ok-clause-ok
-returns-in-Ok-clause-ok g c = posts_item _ _ _ _ c.self.invariant c.legal_lists_are_orderly.ensures c.args.t.now _ c.self.view_is c.args.k c.args.q.now c.requires.can c.item-obl.result.now c.item-obl.ensures _ c.file-file.result c.file-file.ensures c.as_slice.result.now (c.as_slice.ensures ∙ c.in_ok-sites.ensures) c.in-Ok.ensures.marks c.in-Ok.ensures.assumed refl (c.append.ensures.items ∙ ap (λ z. z ++ Post c.file-file.result c.item-obl.result.now c.args.q.now ∷ []) c.in-Ok.ensures.journal)
+returns-in-Ok-clause-ok g c = posts_item _ _ _ _ c.self.invariant.0 c.legal_lists_are_orderly.ensures c.args.t.now _ c.self.view_is c.args.k c.args.q.now c.requires.can c.item-obl.result.now c.item-obl.ensures _ c.file-file.result c.file-file.ensures c.as_slice.result.now (c.as_slice.ensures ∙ c.in_ok-sites.ensures) c.in-Ok.ensures.marks c.in-Ok.ensures.assumed refl (c.append.ensures.items ∙ ap (λ z. z ++ Post c.file-file.result c.item-obl.result.now c.args.q.now ∷ []) c.in-Ok.ensures.journal)
 
 pub invariant_of-self-in-Err : goal.invariant_of-self-in-Err
-invariant_of-self-in-Err g c = kept_view _ _ _ _ _ (same_view c.self.inside.marks.items c.truncate.new.self.items c.self.inside.hands.items c.self.inside.assumed.items c.extend.new.assumed.items c.self.inside.journal.items c.extend.new.journal.items _ _ c.self.inside.shelves.items (cut_back c.self.inside.marks.items c.extend.new.marks.items c.truncate.new.self.items _ (ap length c.as_slice-known.ensures.value) c.in-Err.ensures.marks_front c.truncate.ensures.items) c.in-Err.ensures.nothing_assumed c.in-Err.ensures.journal c.in-Err.ensures.no_room) c.self.invariant
+invariant_of-self-in-Err g c = (
+  kept_view _ _ _ _ _ (same_view c.self.inside.marks.items c.truncate.new.self.items c.self.inside.hands.items c.self.inside.assumed.items c.extend.new.assumed.items c.self.inside.journal.items c.extend.new.journal.items _ _ c.self.inside.shelves.items (cut_back c.self.inside.marks.items c.extend.new.marks.items c.truncate.new.self.items _ (c.len-known.ensures.len ∙ ap length c.known.ensures) c.in-Err.ensures.marks_front c.truncate.ensures.items) c.in-Err.ensures.nothing_assumed c.in-Err.ensures.journal c.in-Err.ensures.no_room) c.self.invariant.0,
+  queued_cut _ _ c.self.invariant.0.same_book _ _ _ _ c.self.invariant.1 c.extend.ensures.waiting c.extend.ensures.backs c.truncate.ensures.queues (cut_back c.self.inside.marks.items c.extend.new.marks.items c.truncate.new.self.items _ (c.len-known.ensures.len ∙ ap length c.known.ensures) c.in-Err.ensures.marks_front c.truncate.ensures.items) c.in-Err.ensures.marks_front,
+)
 
 pub returns-clause-err : goal.returns-clause-err
-returns-clause-err g c = same_view c.self.inside.marks.items c.truncate.new.self.items c.self.inside.hands.items c.self.inside.assumed.items c.extend.new.assumed.items c.self.inside.journal.items c.extend.new.journal.items _ _ c.self.inside.shelves.items (cut_back c.self.inside.marks.items c.extend.new.marks.items c.truncate.new.self.items _ (ap length c.as_slice-known.ensures.value) c.in-Err.ensures.marks_front c.truncate.ensures.items) c.in-Err.ensures.nothing_assumed c.in-Err.ensures.journal c.in-Err.ensures.no_room ∙ c.self.view_is
+returns-clause-err g c = same_view c.self.inside.marks.items c.truncate.new.self.items c.self.inside.hands.items c.self.inside.assumed.items c.extend.new.assumed.items c.self.inside.journal.items c.extend.new.journal.items _ _ c.self.inside.shelves.items (cut_back c.self.inside.marks.items c.extend.new.marks.items c.truncate.new.self.items _ (c.len-known.ensures.len ∙ ap length c.known.ensures) c.in-Err.ensures.marks_front c.truncate.ensures.items) c.in-Err.ensures.nothing_assumed c.in-Err.ensures.journal c.in-Err.ensures.no_room ∙ c.self.view_is

@@ -1,19 +1,30 @@
 use Rattle.std.proofs.Common.{refl}
+use Rattle.std.proofs.Common.{arith}
 use Rattle.po_core.specs.declared.event.Event.TheVariants.{PutBack}
-use Rattle.po_ledger.proofs.Kept.{does_seen, held_seen, known_there, held_place, room_one, put_back_did, put_back_keeps}
+use Rattle.po_ledger.proofs.Kept.{does_seen, hand_of_file, held_seen, held_place, room_one, put_back_did, put_back_keeps}
+use Rattle.po_ledger.proofs.Queued.{queued_taken, waits_there}
 use Rattle.po_ledger.proofs.ledger.Ledger.put_back.Goals as goal
 
-pub change-requires : goal.change-requires
-change-requires g c = known_there _ _ _ _ c.self.invariant c.legal_lists_are_orderly.ensures
+pub free_hand-requires : goal.free_hand-requires
+free_hand-requires g c = held_seen c.args.file _ _ c.self.view_is c.requires
 
-pub set_hand-requires : goal.set_hand-requires
-set_hand-requires g c = held_place _ _ _ _ c.self.invariant c.legal_lists_are_orderly.ensures c.args.file (held_seen c.args.file _ _ c.self.view_is c.requires)
+pub put_back-requires-clause-apart : goal.put_back-requires-clause-apart
+put_back-requires-clause-apart g c = c.self.invariant.0.apart
+
+pub put_back-requires-clause-waiting : goal.put_back-requires-clause-waiting
+put_back-requires-clause-waiting g c = waits_there _ _ c.self.invariant.0.same_book _ c.self.invariant.1.waiting
+
+pub put_back-requires-clause-there : goal.put_back-requires-clause-there
+put_back-requires-clause-there g c = let w = held_place _ _ _ _ c.self.invariant.0 c.legal_lists_are_orderly.ensures c.args.file (held_seen c.args.file _ _ c.self.view_is c.requires) in omega (arith, w, c.self.invariant.0.hands_there, c.self.invariant.1.waiting.there)
+
+pub put_back-requires-clause-of_file : goal.put_back-requires-clause-of_file
+put_back-requires-clause-of_file g c = hand_of_file _ _ _ _ c.self.invariant.0 c.legal_lists_are_orderly.ensures _ c.args.file c.free_hand.result c.free_hand.ensures.before
+
+pub put_back-requires-clause-none : goal.put_back-requires-clause-none
+put_back-requires-clause-none g c = λ q at. c.self.invariant.1.backs c.args.file q (held_seen c.args.file _ _ c.self.view_is c.requires) at
 
 pub append-requires : goal.append-requires
-append-requires g c = room_one _ _ _ _ c.self.invariant c.legal_lists_are_orderly.ensures c.args.file (held_seen c.args.file _ _ c.self.view_is c.requires)
-
-pub invariant_of-self : goal.invariant_of-self
-invariant_of-self g c = put_back_keeps _ _ _ _ c.self.invariant c.legal_lists_are_orderly.ensures _ c.args.file (held_seen c.args.file _ _ c.self.view_is c.requires) c.change.ensures c.set_hand.ensures refl c.append.ensures.items c.append.ensures.room
+append-requires g c = room_one _ _ _ _ c.self.invariant.0 c.legal_lists_are_orderly.ensures c.args.file (held_seen c.args.file _ _ c.self.view_is c.requires)
 
 pub returns : goal.returns
-returns g c = does_seen _ (PutBack c.args.file) _ _ _ c.self.view_is (put_back_did _ _ _ _ c.self.invariant c.legal_lists_are_orderly.ensures _ c.args.file (held_seen c.args.file _ _ c.self.view_is c.requires) c.change.ensures c.set_hand.ensures refl c.append.ensures.items)
+returns g c = does_seen _ (PutBack c.args.file) _ _ _ c.self.view_is (put_back_did _ _ _ _ c.self.invariant.0 c.legal_lists_are_orderly.ensures _ c.args.file c.free_hand.result c.free_hand.ensures.before c.put_back.ensures.marks c.free_hand.ensures.after refl c.append.ensures.items)

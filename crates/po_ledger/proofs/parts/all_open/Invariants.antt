@@ -1,5 +1,0 @@
-use Rattle.std.proofs.Common.{◌≡◌, take, map, false}
-use Rattle.po_ledger.proofs.parts.all_open.Given as goal
-
-abbrev pub invariant-loop-item : goal.invariant-loop-item
-invariant-loop-item g l = l.hand ≡ map (λ o. (o, false)) (take l.item-index l.items)
