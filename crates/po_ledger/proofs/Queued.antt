@@ -1,16 +1,17 @@
 -- What waits in a ledger's queues after each call.
-use Rattle.std.proofs.Common.{◌≡◌, ◌⊎◌, ℕ, zero, suc, ◌<◌, List, [], ◌∷◌, ◌++◌, length, map, take, set, replicate, refl, sym, ◌∙◌, ap, subst, inl, inr, arith}
+use Rattle.std.proofs.Common.{◌≡◌, ◌⊎◌, ℕ, zero, suc, ◌+◌, ◌<◌, ◌≤◌, List, [], ◌∷◌, ◌++◌, length, get_or, set, replicate, refl, sym, ◌∙◌, ap, subst, inl, inr, arith}
 use Rattle.std.specs.Prelude.{Bool, Option, Some, None, slice_get}
 use Rattle.std.specs.List.{Contains}
 use Rattle.std.proofs.lemmas.List.Elements.{Contains-append_left}
-use Rattle.std.proofs.lemmas.Option.{slice_get_within}
+use Rattle.std.proofs.lemmas.Option.{slice_get-get_or}
 use Rattle.po_base.specs.declared.numbers.FileNo.{FileNo}
 use Rattle.po_core.specs.Book.{Book}
 use Rattle.po_core.specs.declared.event.Hand.{Hand}
 use Rattle.po_core.specs.declared.event.Mark.{Mark}
 use Rattle.po_core.specs.declared.event.Mark.TheVariants.{Untaken}
 use Rattle.po_core.specs.declared.obl.Obl.{Obl}
-use Rattle.po_ledger.specs.Parts.{HandAt}
+use Rattle.std.proofs.lemmas.Bool.{cases_eq}
+use Rattle.po_ledger.specs.Parts.{HandAt, IsIdle}
 use Rattle.po_ledger.specs.Queued.{IsQueued}
 use Rattle.po_marks.specs.Waiting.{AreWaiting, KeepsBacks, Marking}
 use Rattle.po_marks.specs.declared.queue.Queue.{Queue}
@@ -71,6 +72,13 @@ module _ {P N T : Type 0} (b of_book : Book P N T) (same : of_book ≡ b) where
           ];
     }
 
+  -- a file is put back
+  pub queued_back : (m n : Marking P N) (hands later : List (Option (Hand P))) (file : FileNo) (items : List (Obl P)) → IsQueued b m hands → AreWaiting of_book n → file.0 < length m.queues → ((q : Queue P) → slice_get m.queues file.0 ≡ Some q → n.queues ≡ set m.queues file.0 (record { back = items; fresh = q.fresh })) → later ≡ set hands file.0 None → IsQueued b n later
+  queued_back m n hands later file items k w there is now =
+      let d : Queue P = record { back = []; fresh = [] } in
+      let q : Queue P = get_or m.queues file.0 d in
+      queued_taken m n hands k w later file None (record { back = items; fresh = q.fresh }) (is q (slice_get-get_or m.queues file.0 d there)) now (λ h. absurd (let none : ◌≡◌ {A = Option (Hand P)} None (Some h.0) = h.1 in cc))
+
   -- a file is free
   pub queued_freed : (m : Marking P N) (hands later : List (Option (Hand P))) (file : FileNo) → IsQueued b m hands → later ≡ set hands file.0 None → IsQueued b m later
   queued_freed m hands later file k now = record {
@@ -87,3 +95,19 @@ module _ {P N T : Type 0} (b of_book : Book P N T) (same : of_book ≡ b) where
       queued_kept m n hands k
       (waiting_less of_book long n is (λ o u. subst (λ (z : List (Obl P × Mark P N)). Contains z (o, Untaken)) (sym front.1) (Contains-append_left m.items front.0 (o, Untaken) (subst (λ (z : List (Obl P × Mark P N)). Contains z (o, Untaken)) back u))) w)
       (λ f q h. keeps f q (ap (λ (z : List (Queue P)). slice_get z f) (sym is) ∙ h))
+
+-- one more file of which nothing can be taken
+pub idle_more : {P N : Type 0} (m : Marking P N) (hands : List (Option (Hand P))) (n : ℕ) → ((file : FileNo) → file.0 < n → IsIdle m hands file) → IsIdle m hands (record { 0 = n }) → (file : FileNo) → file.0 < n + 1 → IsIdle m hands file
+idle_more m hands n before here file l = elim (cases_eq file.0 n) [
+  | inl q ↦ (let to : ℕ → FileNo = λ k. record { 0 = k } in subst (λ (z : FileNo). IsIdle m hands z) (ap to (sym q)) here)
+  | inr ne ↦ before file (let other : file.0 ≡ n → ⊥ = ne in omega arith)
+]
+
+-- what is drawn from a queue is no more than it has
+pub drawn_room : {P : Type 0} (queues : List (Queue P)) (file : ℕ) → file < length queues → (n count : ℕ) → ((q : Queue P) → slice_get queues file ≡ Some q → n ≤ length q.back + length q.fresh) → ((q : Queue P) → slice_get queues file ≡ Some q → length q.back + length q.fresh ≡ count) → n ≤ count
+drawn_room {P} queues file l n count few all =
+    let d : Queue P = record { back = []; fresh = [] } in
+    let at = slice_get-get_or queues file d l in
+    let x = few (get_or queues file d) at in
+    let y = all (get_or queues file d) at in
+    omega (arith, x, y)

@@ -3,6 +3,7 @@ ghost use Rattle.std.specs.List.{Contains};
 ghost use Rattle.po_base.specs.declared.numbers.FileNo.{FileNo};
 ghost use Rattle.po_base.specs.declared.numbers.FunNo.{FunNo};
 ghost use Rattle.po_core.specs.Core.{AreApart};
+ghost use Rattle.po_core.specs.declared.event.Mark.{Mark};
 ghost use Rattle.po_core.specs.declared.event.Mark.TheVariants.{Untaken};
 ghost use Rattle.po_core.specs.declared.obl.Obl.{Obl};
 ghost use Rattle.po_base.specs.declared.numbers.NodeNo.{NodeNo};
@@ -79,8 +80,9 @@ pub(crate) fn takeable<R: Rulebook>(
 {
     for number in 0..book.files() {
         let file = FileNo(number);
-        if let Some(_untaken) = takeable_in(book, marks, hands, file) {
-            return Some(file);
+        match takeable_in(book, marks, hands, file) {
+            Some(_untaken) => return Some(file),
+            None => {}
         }
     }
     None

@@ -6,9 +6,9 @@ use Rattle.po_ledger.proofs.report.untaken_count.Goals.{then-is_untaken, else-is
 
 pub loop-i-preserved : goal.loop-i-preserved
 loop-i-preserved g c = elim c.if-is_untaken.branch [
-  | then-is_untaken w ↦ untaken_then c.args.marks.now.entries c.loop-i.i c.entry_at-entry.result c.loop-i.untaken c.if-is_untaken.untaken c.requires c.loop-i-test.true c.entry_at-entry.ensures c.loop-i.invariant (c.is_untaken.ensures.0 w.if-is_untaken.true) w.untaken-is
-  | else-is_untaken w ↦ untaken_else c.args.marks.now.entries c.loop-i.i c.entry_at-entry.result c.loop-i.untaken c.if-is_untaken.untaken c.loop-i-test.true c.entry_at-entry.ensures c.loop-i.invariant (λ h. both_ways _ w.if-is_untaken.false (c.is_untaken.ensures.1 h)) w.untaken-is
+  | then-is_untaken w ↦ untaken_then c.args.marks.now.entries c.loop-i.i c.entry_at-entry.result c.loop-i.untaken c.if-is_untaken.untaken c.requires (rw c.len-i-end.ensures.len at c.loop-i-test.true) c.entry_at-entry.ensures c.loop-i.invariant (c.is_untaken.ensures.0 w.if-is_untaken.true) w.untaken-is
+  | else-is_untaken w ↦ untaken_else c.args.marks.now.entries c.loop-i.i c.entry_at-entry.result c.loop-i.untaken c.if-is_untaken.untaken (rw c.len-i-end.ensures.len at c.loop-i-test.true) c.entry_at-entry.ensures c.loop-i.invariant (λ h. both_ways _ w.if-is_untaken.false (c.is_untaken.ensures.1 h)) w.untaken-is
 ]
 
 pub returns : goal.returns
-returns g c = untaken_all c.args.marks.now.entries c.loop-i.i c.loop-i.untaken (take_all c.loop-i.i c.args.marks.now.entries c.loop-i-test.false) c.loop-i.invariant.0
+returns g c = untaken_all c.args.marks.now.entries c.loop-i.i c.loop-i.untaken (take_all c.loop-i.i c.args.marks.now.entries (rw c.len-i-end.ensures.len at c.loop-i-test.false)) c.loop-i.invariant.0
