@@ -17,7 +17,6 @@ use Rattle.po_core.specs.declared.obl.Verdict.{Verdict}
 use Rattle.po_ledger.specs.View.{items_of}
 use Rattle.po_marks.specs.Waiting.{Marking, all_of}
 use Rattle.po_marks.specs.declared.queue.Queue.{Queue}
-
 pub use Rattle.po_marks.specs.Known.{HasKey, HasVerdict, AddsUntaken, AddsEach, AreRemarked, primaries_of, primaries_below, supports_of}
 pub use Rattle.po_marks.specs.Waiting.{TakesFrom}
 

@@ -78,10 +78,12 @@ module _ {K X : Type 0} (eq : K → K → Bool) (one : AreOne eq) where
       first : k ≡ e.0 → Has ((e.0, v) ∷ es) (p, n) → Wrote k v (e ∷ es) p n
       first key (inl q) = inl (sym (ap (λ (z : K × X). z.0) q) ∙ sym key, sym (ap (λ (z : K × X). z.1) q))
       first key (inr h) = inr (λ q. a.0 (subst (λ (z : K). Contains (map (λ e. e.0) es) z) (q ∙ key) (key_in es p n h)), inr h)
+
       later : eq k e.0 ≡ false → Has (e ∷ es) (k, w) → Has (e ∷ insert_entry eq es k v) (p, n) → (Has es (k, w) → Has (insert_entry eq es k v) (p, n) → Wrote k v es p n) → Wrote k v (e ∷ es) p n
       later f (inl c) h rest = absurd (differ eq one k e.0 f (ap (λ (z : K × X). z.0) (sym c)))
       later f (inr c) (inl q) rest = inr (λ s. differ eq one k e.0 f (sym (ap (λ (z : K × X). z.0) q ∙ s)), inl q)
       later f (inr c) (inr h) rest = elim (rest c h) [ inl x ↦ inl x | inr x ↦ inr (x.0, inr x.1) ]
+
       by : (b : Bool) → eq k e.0 ≡ b → Has (e ∷ es) (k, w) → Has (insert_entry eq (e ∷ es) k v) (p, n) → (Has es (k, w) → Has (insert_entry eq es k v) (p, n) → Wrote k v es p n) → Wrote k v (e ∷ es) p n
       by true t c h rest = first ((one.tells k e.0).0 t) (rw t at h)
       by false f c h rest = later f c (rw f at h) rest
@@ -94,11 +96,13 @@ module _ {K X : Type 0} (eq : K → K → Bool) (one : AreOne eq) where
       first key (inl q) = inl (λ i. ((sym key ∙ sym q.0) i, sym q.1 i))
       first key (inr (ne, inl q)) = absurd (ne (sym (ap (λ (z : K × X). z.0) q) ∙ sym key))
       first key (inr (ne, inr h)) = inr h
+
       later : eq k e.0 ≡ false → Has (e ∷ es) (k, w) → Wrote k v (e ∷ es) p n → (Has es (k, w) → Wrote k v es p n → Has (insert_entry eq es k v) (p, n)) → Has (e ∷ insert_entry eq es k v) (p, n)
       later f (inl c) h rest = absurd (differ eq one k e.0 f (ap (λ (z : K × X). z.0) (sym c)))
       later f (inr c) (inl q) rest = inr (rest c (inl q))
       later f (inr c) (inr (ne, inl q)) rest = inl q
       later f (inr c) (inr (ne, inr h)) rest = inr (rest c (inr (ne, h)))
+
       by : (b : Bool) → eq k e.0 ≡ b → Has (e ∷ es) (k, w) → Wrote k v (e ∷ es) p n → (Has es (k, w) → Wrote k v es p n → Has (insert_entry eq es k v) (p, n)) → Has (insert_entry eq (e ∷ es) k v) (p, n)
       by true t c h rest = rw t (first ((one.tells k e.0).0 t) h)
       by false f c h rest = rw f (later f c h rest)

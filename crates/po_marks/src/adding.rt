@@ -99,10 +99,7 @@ fn add_primaries<R: Rulebook>(
 }
 
 /// All functions' own obligations, untaken and waiting. Time: their number, on the average, and that of files.
-pub fn first_marks<R: Rulebook>(
-    alloc: Global,
-    book: &R,
-) -> Result<Marks<R::Pred, R::Rule>, Memory>
+pub fn first_marks<R: Rulebook>(alloc: Global, book: &R) -> Result<Marks<R::Pred, R::Rule>, Memory>
     ensures items { IfOk result (λ marks. AddsEach (primaries_below (R.meaning book.now) (R.meaning book.now).functions) [] marks.items) }
     ensures waiting { IfOk result (AreWaiting (R.meaning book.now)) }
 {

@@ -6,7 +6,7 @@ ghost use Rattle.po_marks.specs.Known.{AreRemarked};
 ghost use Rattle.po_marks.specs.Waiting.{AreWaiting, DrawsMore, DrawsOne, IsOpenHand, TakesFrom};
 ghost use Rattle.po_marks.specs.declared.queue.Queue.{Queue};
 
-use crate::entries::{Entries, waits, set_mark};
+use crate::entries::{Entries, set_mark, waits};
 use crate::marks::Marks;
 use crate::queue::{Queue, empty_queue, swap_queue};
 use po_base::{FileNo, Memory, Roomy};

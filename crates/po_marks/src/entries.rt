@@ -54,11 +54,7 @@ pub fn mark_of<R: Rulebook>(
 }
 
 /// Whether an obligation is known, in constant time on the average.
-pub fn is_known<R: Rulebook>(
-    book: &R,
-    known: &Entries<R::Pred, R::Rule>,
-    o: &Obl<R::Pred>,
-) -> bool
+pub fn is_known<R: Rulebook>(book: &R, known: &Entries<R::Pred, R::Rule>, o: &Obl<R::Pred>) -> bool
     ensures { IsTrue result ↔ HasKey known.now.entries o.now }
 {
     match mark_of(book, known, o) {

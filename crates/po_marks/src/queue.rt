@@ -73,11 +73,7 @@ pub(crate) fn swap_queue<P: Copy>(
 }
 
 /// Puts items back into a file's queue, in which nothing was put back before. It takes no memory.
-pub(crate) fn put_to_back<P: Copy>(
-    queues: &mut Vec<Queue<P>>,
-    file: FileNo,
-    items: List<Obl<P>>,
-)
+pub(crate) fn put_to_back<P: Copy>(queues: &mut Vec<Queue<P>>, file: FileNo, items: List<Obl<P>>)
     requires { file.0 < length queues.old.items }
     ensures { (q : Queue P) → slice_get queues.old.items file.0 ≡ Some q → queues.new.items ≡ slice_set queues.old.items file.0 (record { back = items; fresh = q.fresh }) }
 {
