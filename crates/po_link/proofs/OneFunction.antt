@@ -1,17 +1,16 @@
 -- Each external name has one function.
-use Rattle.std.proofs.Common.{◌≡◌, ℕ, zero, suc, ◌+◌, ◌<◌, ◌≤◌, List, [], ◌∷◌, ◌++◌, Bool, true, false, cond, length, take, refl, ap, sym, ◌∙◌, ◌⊎◌, inl, inr, subst, arith}
-use Rattle.std.specs.Prelude.{Some, Contains, All, flat_map, slice_get, nat_lt}
+use Rattle.std.proofs.Common.{◌≡◌, ℕ, zero, suc, ◌+◌, ◌-◌, ◌<◌, ◌≤◌, List, [], ◌∷◌, ◌++◌, false, length, take, refl, ap, sym, ◌∙◌, inl, inr, subst, arith}
+use Rattle.std.specs.Prelude.{Some, Contains, flat_map, slice_get, nat_lt}
 use Rattle.std.proofs.lemmas.Bool.{ltb-true, ltb-false}
 use Rattle.std.proofs.lemmas.Bool.Decides.{eqb_tells}
 use Rattle.std.proofs.lemmas.List.{length-append, length-map}
 use Rattle.std.proofs.lemmas.List.Elements.{Contains-append_left, Contains-append_right}
 use Rattle.std.proofs.lemmas.Option.{same_Some, slice_get_within, get_or_from_slice_get}
 use Rattle.po_ir.specs.declared.project.Function.{Function}
-use Rattle.po_ir.specs.declared.project.Project.{Project}
 use Rattle.po_ir.specs.declared.unit.Unit.{Unit as FileUnit}
 use Rattle.po_ir.specs.General.{each_from}
 use Rattle.po_ir.proofs.General.{item_made_from}
-use Rattle.po_symbols.specs.Linking.{InFile, GivesBody, function_body, global_body, bodies, NoCause}
+use Rattle.po_symbols.specs.Linking.{InFile, GivesBody, function_body, global_body}
 use Rattle.po_symbols.proofs.Places.{bool_cases}
 use Rattle.po_symbols.proofs.Contained.{contains_head}
 use Rattle.po_symbols.proofs.SaidOf.{in_file}

@@ -1,15 +1,15 @@
 -- The same files have one outcome.
-use Rattle.std.proofs.Common.{◌≡◌, ◌<◌, ◌≤◌, ℕ, List, refl, ap, sym, ◌∙◌, ◌⊎◌, inl, inr, subst, arith}
-use Rattle.std.specs.Prelude.{Result, Ok, Err, sum_by}
+use Rattle.std.proofs.Common.{◌≡◌, ℕ, List, refl, ap, sym, ◌∙◌, ◌⊎◌, inl, inr, subst, arith}
+use Rattle.std.specs.Prelude.{Result, Ok, Err}
+use Rattle.std.specs.Result.{IsErrAnd}
 use Rattle.po_base.specs.declared.numbers.FileNo.{FileNo}
 use Rattle.po_arith.specs.declared.target.Target.{Target}
 use Rattle.po_ir.specs.declared.project.Project.{Project}
 use Rattle.po_ir.specs.declared.unit.Unit.{Unit as FileUnit}
 use Rattle.po_symbols.specs.declared.link_fail.LinkFail.{LinkFail}
 use Rattle.po_symbols.specs.declared.link_fail.LinkFail.TheVariants.{TwoBodies, Clash, TooLarge, Memory}
-use Rattle.po_symbols.specs.Linking.{unit_weight, unit_functions, NoCause, Fits, IsTooLarge, IsRefused}
+use Rattle.po_symbols.specs.Linking.{NoCause, Fits, IsTooLarge, IsRefused}
 use Rattle.po_symbols.proofs.Refused.{one_refusal}
-use Rattle.po_link.specs.Joined.{IsLinked}
 use Rattle.po_link.specs.Outcome.{IsOutcome, OneOutcome}
 use Rattle.po_link.proofs.OneLinked.{one_project}
 
@@ -27,8 +27,11 @@ one_count units m n h k =
       | inr a ↦ elim k [ inl b ↦ let l = b.0 in let u = a.0 in absurd (omega arith) | inr b ↦ a.2 ∙ sym b.2 ]
     ]
 
+abbrev file_no : ℕ → FileNo
+file_no n = record { 0 = n }
+
 same_file : (a b : FileNo) → a.0 ≡ b.0 → a ≡ b
-same_file a b h = cc
+same_file a b h = ap file_no h
 
 one_cause : (units : List FileUnit) (f g : LinkFail) → IsRefused units f → IsRefused units g → (f ≡ Memory) ⊎ ((g ≡ Memory) ⊎ (f ≡ g))
 one_cause units Memory g h k = inl refl
@@ -63,3 +66,8 @@ one_outcome units target (Err f) (Err g) h k = elim (one_cause units f g h k) [
   | inl m ↦ inl (ap Err m)
   | inr n ↦ elim n [ inl m ↦ inr (inl (ap Err m)) | inr same ↦ inr (inr (ap Err same)) ]
 ]
+
+-- what is refused is answered so
+pub refused : (units : List FileUnit) (target : Target) (r : Result Project LinkFail) (fail : LinkFail) → IsErrAnd r (λ e. e ≡ fail) → IsRefused units fail → IsOutcome units target r
+refused units target (Ok p) fail h k = absurd (h)
+refused units target (Err e) fail h k = subst (IsRefused units) (sym h) k

@@ -3,12 +3,12 @@
 
 mod join;
 mod laws;
-mod link;
+mod linking;
 mod objects;
 mod rename;
 mod scope;
 mod seen;
 
 pub use laws::{functions_stand_by_file, joined_to_one, name_has_one_function, outcome_is_one};
-pub use link::link;
+pub use linking::link;
 pub use po_symbols::LinkFail;

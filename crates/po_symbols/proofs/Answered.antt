@@ -1,5 +1,5 @@
 -- The lesser of both causes is the answer.
-use Rattle.std.proofs.Common.{◌≡◌, ◌≢◌, ℕ, List, refl, ap, sym, ◌∙◌, ◌⊎◌, inl, inr, subst}
+use Rattle.std.proofs.Common.{◌≡◌, ◌≢◌, ℕ, List, refl, ap, ◌∙◌, inl, inr, subst}
 use Rattle.std.specs.Prelude.{Option, Some, None}
 use Rattle.std.specs.Ordering.{nat_cmp, ordering_reverse, match_ordering}
 use Rattle.std.specs.Cmp.Lexicographic.{slice_cmp}
@@ -9,7 +9,7 @@ use Rattle.std.proofs.lemmas.Cmp.{nat_list_cmp_total}
 use Rattle.std.proofs.lemmas.Map.Lookups.{exact_bytes}
 use Rattle.po_ir.specs.declared.unit.Unit.{Unit as FileUnit}
 use Rattle.po_symbols.specs.declared.causes.Cause.{Cause}
-use Rattle.po_symbols.specs.Linking.{AreTwoBodies, AreClashing, HasCause, IsRefused}
+use Rattle.po_symbols.specs.Linking.{AreTwoBodies, AreClashing, IsRefused}
 use Rattle.po_symbols.specs.Causes.{IsFirst, IsFound, IsAnswer, two_bodies, clash, answer}
 
 abbrev Name : Type 0

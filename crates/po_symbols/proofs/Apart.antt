@@ -1,6 +1,6 @@
 -- Types that differ, and their computed test.
-use Rattle.std.proofs.Common.{◌≡◌, ◌≢◌, ℕ, ◌==◌, List, [], ◌∷◌, ◌++◌, Bool, true, false, cond, take, drop, refl, ap, sym, ◌∙◌, ◌⊎◌, inl, inr, subst, bytes_eq, arith}
-use Rattle.std.specs.Prelude.{Contains, codes, not, ◌&&◌}
+use Rattle.std.proofs.Common.{◌≡◌, ◌≢◌, ℕ, List, [], ◌∷◌, ◌++◌, true, false, take, drop, refl, ap, sym, ◌∙◌, ◌⊎◌, inl, inr, subst, bytes_eq, arith}
+use Rattle.std.specs.Prelude.{Contains, codes}
 use Rattle.std.proofs.lemmas.Bool.Decides.{eqb_tells}
 use Rattle.std.proofs.lemmas.List.{take-append-drop}
 use Rattle.po_symbols.specs.Linking.{IsSizeless, Differ}

@@ -1,6 +1,6 @@
 -- One file more, or one name more, in what is listed.
-use Rattle.std.proofs.Common.{◌≡◌, ◌≢◌, ℕ, zero, suc, ◌+◌, ◌-◌, ◌<◌, ◌≤◌, ◌==◌, List, [], ◌∷◌, ◌++◌, Bool, true, false, cond, length, take, get_or, refl, ap, sym, ◌∙◌, ◌⊎◌, inl, inr, subst, append_assoc, append-nil, bytes_eq, arith}
-use Rattle.std.specs.Prelude.{Option, Some, None, Contains, find, flat_map, slice_get, option_map}
+use Rattle.std.proofs.Common.{◌≡◌, ◌≢◌, ℕ, zero, suc, ◌+◌, ◌-◌, ◌<◌, ◌≤◌, ◌==◌, List, [], ◌∷◌, ◌++◌, true, false, cond, length, take, get_or, refl, ap, sym, ◌∙◌, inl, inr, subst, append_assoc, append-nil, bytes_eq, arith}
+use Rattle.std.specs.Prelude.{Some, None, Contains, find, flat_map, slice_get, option_map}
 use Rattle.std.specs.Option.{option_or, option_map_or}
 use Rattle.std.specs.BTreeMap.{BTreeMap}
 use Rattle.std.proofs.lemmas.List.{take_more, length_push, length-take-le}
@@ -16,7 +16,7 @@ use Rattle.po_symbols.specs.Linking.{function_body, global_body, bodies, declare
 use Rattle.po_symbols.specs.Names.{listed}
 use Rattle.po_symbols.specs.Said.{AreBodies, AreTypes, mark, marks, function_marks, global_marks, marks_at, body_files, typed_in, type_at, typed_files, ends_with_file, with_type}
 use Rattle.po_symbols.proofs.Places.{bool_cases, option_cases, find-push}
-use Rattle.po_symbols.proofs.Contained.{contains_none, contains_head, contains_tail}
+use Rattle.po_symbols.proofs.Contained.{contains_head, contains_tail}
 use Rattle.po_symbols.proofs.SaidOf.{there_typed}
 
 -- ---- bodies

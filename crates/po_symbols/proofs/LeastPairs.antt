@@ -1,15 +1,14 @@
 -- The computed pairs are the least.
-use Rattle.std.proofs.Common.{◌≡◌, ◌≢◌, ℕ, ◌<◌, ◌≤◌, ◌==◌, List, [], ◌∷◌, Bool, true, false, cond, refl, ap, sym, ◌∙◌, ◌⊎◌, inl, inr, subst, bytes_eq, arith}
-use Rattle.std.specs.Prelude.{Option, Some, None, Contains, find, not, option_map}
+use Rattle.std.proofs.Common.{◌≡◌, ◌≢◌, ℕ, ◌<◌, ◌≤◌, List, [], ◌∷◌, Bool, true, false, refl, ap, sym, ◌∙◌, ◌⊎◌, inl, inr, subst, bytes_eq, arith}
+use Rattle.std.specs.Prelude.{Option, Some, None, Contains, find, option_map}
 use Rattle.std.specs.Option.{option_or}
 use Rattle.std.proofs.lemmas.Bool.Decides.{eqb_tells}
-use Rattle.po_symbols.specs.Linking.{Differ, IsLeastPair}
-use Rattle.po_symbols.specs.Differing.{differ}
-use Rattle.po_symbols.specs.Pairs.{is_other, two_of, differs, pair_with, pair_beyond, clash_of}
+use Rattle.po_symbols.specs.Linking.{Differ}
+use Rattle.po_symbols.specs.Pairs.{is_other, two_of, differs, pair_beyond, clash_of}
 use Rattle.po_symbols.specs.Causes.{IsPairOf}
 use Rattle.po_symbols.proofs.Places.{bool_cases, option_cases, bytes_same, same_bytes}
 use Rattle.po_symbols.proofs.Contained.{contains_none, contains_cases, contains_head, contains_tail, find_there, find_nothing}
-use Rattle.po_symbols.proofs.Apart.{apart, told, differ_back, with_third}
+use Rattle.po_symbols.proofs.Apart.{apart, told, with_third}
 
 -- pairs that are related alike have the same least
 pub pair_along : (P Q : ℕ → ℕ → Type 0) → ((a b : ℕ) → P a b → Q a b) → ((a b : ℕ) → Q a b → P a b) → (o : Option (ℕ × ℕ)) → IsPairOf P o → IsPairOf Q o

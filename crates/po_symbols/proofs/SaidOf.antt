@@ -1,16 +1,16 @@
 -- What is listed of a name is what the files say of it.
-use Rattle.std.proofs.Common.{◌≡◌, ℕ, zero, suc, ◌+◌, ◌<◌, ◌≤◌, List, [], ◌∷◌, ◌++◌, Bool, true, false, cond, refl, ap, sym, ◌∙◌, ◌⊎◌, inl, inr, subst, bytes_eq, arith}
-use Rattle.std.specs.Prelude.{Option, Some, None, MatchOption, Contains, flat_map, slice_get}
+use Rattle.std.proofs.Common.{◌≡◌, ℕ, ◌+◌, ◌<◌, ◌≤◌, List, [], ◌∷◌, ◌++◌, true, refl, ap, sym, inl, inr, subst, bytes_eq, arith}
+use Rattle.std.specs.Prelude.{Option, Some, None, MatchOption, Contains, slice_get}
 use Rattle.std.specs.Option.{option_map_or}
 use Rattle.std.proofs.lemmas.List.Elements.{Contains-append_left, Contains-append_right, Contains-append_cases}
 use Rattle.po_ir.specs.declared.unit.Unit.{Unit as FileUnit}
 use Rattle.po_ir.specs.General.{each_from}
 use Rattle.po_ir.proofs.General.{into_each, from_each, alone}
 use Rattle.po_symbols.specs.Linking.{InFile, GivesBody, HasType, bodies, type_in, AreTwoBodies, AreClashing}
-use Rattle.po_symbols.specs.Said.{mark, marks, marks_at, body_files, typed_in, type_at, typed_files}
+use Rattle.po_symbols.specs.Said.{mark, marks, marks_at, body_files, type_at, typed_files}
 use Rattle.po_symbols.specs.Pairs.{two_of, clash_of}
 use Rattle.po_symbols.specs.Causes.{IsPairOf}
-use Rattle.po_symbols.proofs.Places.{bool_cases, option_cases, bytes_same, same_bytes}
+use Rattle.po_symbols.proofs.Places.{bytes_same, same_bytes}
 use Rattle.po_symbols.proofs.Contained.{contains_none, contains_cases, contains_head, contains_tail}
 use Rattle.po_symbols.proofs.LeastPairs.{Rises, TwoIn, two_least, Climbs, ClashIn, clash_least, pair_along}
 

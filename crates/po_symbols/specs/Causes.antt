@@ -1,5 +1,5 @@
 -- The least name for which files can't be joined, and its least pair of files.
-use Rattle.std.specs.Prelude.{ℕ, ◌≡◌, ◌≢◌, List, Option, Some, None, Result, Ok, Err}
+use Rattle.std.specs.Prelude.{ℕ, ◌≢◌, List, Option, Some, None}
 use Rattle.std.specs.Ordering.{nat_cmp, match_ordering}
 use Rattle.std.specs.Cmp.Lexicographic.{slice_cmp}
 use Rattle.std.specs.declared.cmp.Ordering.TheVariants.{Greater}
@@ -7,7 +7,7 @@ use Rattle.po_ir.specs.declared.unit.Unit.{Unit as FileUnit}
 use Rattle.po_symbols.specs.declared.causes.Cause.{Cause}
 use Rattle.po_symbols.specs.declared.link_fail.LinkFail.{LinkFail}
 use Rattle.po_symbols.specs.declared.link_fail.LinkFail.TheVariants.{TwoBodies, Clash}
-use Rattle.po_symbols.specs.Linking.{IsLeastPair, NoCause, IsTooLarge, IsRefused}
+use Rattle.po_symbols.specs.Linking.{IsLeastPair, NoCause, IsRefused}
 
 -- the pair is the least that is related, or there is none
 abbrev pub IsPairOf : (ℕ → ℕ → Type 0) → Option (ℕ × ℕ) → Type 0

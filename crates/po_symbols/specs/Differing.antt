@@ -1,5 +1,5 @@
 -- Whether two types of a name differ, as it is computed from their spellings.
-use Rattle.std.specs.Prelude.{ℕ, ◌==◌, List, [], ◌∷◌, Bool, true, false, not, ◌&&◌, cond, codes, bytes_eq, take, drop}
+use Rattle.std.specs.Prelude.{ℕ, ◌==◌, List, [], ◌∷◌, Bool, false, not, ◌&&◌, cond, codes, bytes_eq, take, drop}
 
 -- the text has a `]`, and the item behind the first one
 abbrev pub follows_bracket : List ℕ → List ℕ → Bool

@@ -1,5 +1,5 @@
 -- The least pair of files among those that say something of a name.
-use Rattle.std.specs.Prelude.{ℕ, ◌==◌, List, [], ◌∷◌, Bool, not, cond, find, bytes_eq, Option, Some, None, option_map}
+use Rattle.std.specs.Prelude.{ℕ, ◌==◌, List, [], ◌∷◌, Bool, not, cond, find, bytes_eq, Option, None, option_map}
 use Rattle.std.specs.Option.{option_or}
 use Rattle.po_symbols.specs.Differing.{differ}
 

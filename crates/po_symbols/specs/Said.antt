@@ -1,5 +1,5 @@
 -- What the files say of each name, in the order of the files.
-use Rattle.std.specs.Prelude.{ℕ, ◌==◌, ◌+◌, ◌-◌, ◌≡◌, List, [], ◌∷◌, ◌++◌, Bool, true, false, cond, flat_map, bytes_eq, length, slice_get}
+use Rattle.std.specs.Prelude.{ℕ, ◌==◌, ◌-◌, ◌≡◌, List, [], ◌∷◌, ◌++◌, Bool, false, cond, flat_map, bytes_eq, length, slice_get}
 use Rattle.std.specs.Option.{option_map_or}
 use Rattle.std.specs.BTreeMap.{BTreeMap}
 use Rattle.po_ir.specs.declared.project.CTypeText.{CTypeText}

@@ -1,4 +1,4 @@
-use Rattle.std.proofs.Common.{◌≡◌, ℕ, length}
+use Rattle.std.proofs.Common.{◌≡◌, length}
 use Rattle.po_symbols.specs.Differing.{follows_bracket}
 use Rattle.po_symbols.proofs.differing.ends_behind_bracket.Given as goal
 

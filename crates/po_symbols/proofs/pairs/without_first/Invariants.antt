@@ -1,4 +1,4 @@
-use Rattle.std.proofs.Common.{◌≡◌, ℕ, length}
+use Rattle.std.proofs.Common.{◌≡◌, length}
 use Rattle.po_symbols.specs.Pairs.{pair_beyond}
 use Rattle.po_symbols.proofs.pairs.without_first.Given as goal
 

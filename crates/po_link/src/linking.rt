@@ -1,4 +1,4 @@
-ghost use Rattle.po_symbols.specs.Linking.{IsOutcome};
+ghost use Rattle.po_link.specs.Outcome.{IsOutcome};
 
 use crate::join::join_files;
 use po_arith::Target;
