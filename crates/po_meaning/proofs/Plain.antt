@@ -37,7 +37,7 @@ use Rattle.po_memory.specs.declared.value.Value.TheVariants.{Number, Null, Point
 use Rattle.po_memory.specs.Blocks.{IsOfWidth}
 use Rattle.po_memory.specs.Bytes.{LiesIn}
 use Rattle.po_memory.specs.Values.{register_value}
-use Rattle.po_gen.specs.IntTypes.{IsTypeOfTarget, types_in, HasTypesOfTarget, AreTypesOfTarget}
+use Rattle.po_ir.specs.IntTypes.{IsTypeOfTarget, types_in, HasTypesOfTarget, AreTypesOfTarget}
 use Rattle.po_meaning.specs.Operands.{pointer_value, as_value, at_node, put, without_value}
 use Rattle.po_meaning.specs.States.{State, IsOf, StandsAt}
 use Rattle.po_meaning.specs.Local.{IsDistance, Local}

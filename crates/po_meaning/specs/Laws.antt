@@ -18,7 +18,7 @@ use Rattle.po_pred.specs.Subst.{put_in}
 use Rattle.po_memory.specs.Holding.{Holds}
 use Rattle.po_memory.specs.Passing.{IsPointerPlace, IsNumberPlace, PlacesAre}
 use Rattle.po_gen.specs.Asks.{Required}
-use Rattle.po_gen.specs.IntTypes.{AreTypesOfTarget}
+use Rattle.po_ir.specs.IntTypes.{AreTypesOfTarget}
 use Rattle.po_meaning.specs.States.{State, StandsAt}
 use Rattle.po_meaning.specs.Local.{Local}
 use Rattle.po_meaning.specs.Steps.{Enters}
