@@ -1,5 +1,5 @@
 -- A step that moves a pointer, or reads or writes memory, leads from a state that belongs to a project to one that belongs to it.
-use Rattle.std.specs.Prelude.{ℕ, suc, ◌+◌, ◌*◌, ◌≡◌, ◌≢◌, ◌≤◌, ◌<◌, ◌⊎◌, true, false, not, ℤ, pos, ◌+ℤ◌, ◌*ℤ◌, ◌≤ℤ◌, List, [], ◌∷◌, All, Option, Some, None, MatchOption, Contains, length, slice_get, slice_set, slice_index_or}
+use Rattle.std.specs.Prelude.{ℕ, suc, ◌+◌, ◌*◌, ◌≡◌, ◌≢◌, ◌≤◌, ◌<◌, ◌⊎◌, true, false, ℤ, pos, ◌+ℤ◌, ◌*ℤ◌, ◌≤ℤ◌, List, [], All, Some, None, Contains, length, slice_get, slice_set, slice_index_or}
 use Rattle.std.proofs.Common.{refl, sym, ap, ◌∙◌, subst, arith, inl, inr}
 use Rattle.std.proofs.lemmas.Int.{ints}
 use Rattle.po_base.specs.declared.numbers.RegNo.{RegNo}
@@ -8,7 +8,6 @@ use Rattle.po_base.specs.declared.operand.Opnd.{Opnd}
 use Rattle.po_base.specs.declared.operand.Opnd.TheVariants as operand
 use Rattle.po_arith.specs.declared.target.Target.{Target}
 use Rattle.po_arith.specs.declared.target.Target.TheVariants.{L64}
-use Rattle.po_ir.specs.declared.graph.Reg.{Reg as Register}
 use Rattle.po_ir.specs.declared.graph.Slot.{Slot}
 use Rattle.po_ir.specs.declared.instr.Access.{Access}
 use Rattle.po_ir.specs.declared.instr.Ty.{Ty}
@@ -18,8 +17,8 @@ use Rattle.po_ir.specs.declared.instr.Instr.TheVariants.{PtrAdd, Load, Store, Co
 use Rattle.po_ir.specs.declared.project.Function.{Function}
 use Rattle.po_ir.specs.declared.project.Project.{Project}
 use Rattle.po_ir.specs.Instructions.{written, entered, followers}
-use Rattle.po_ir.specs.Types.{IsKept, Lies, TypeIs, size_of}
-use Rattle.po_ir.specs.Whole.{Signature, IsWhole, FunctionFits, InstructionFits, AccessFits, greatest_size}
+use Rattle.po_ir.specs.Types.{IsKept, size_of}
+use Rattle.po_ir.specs.Whole.{Signature, IsWhole, FunctionFits, InstructionFits, greatest_size}
 use Rattle.po_core.specs.declared.report.Report.{Report}
 use Rattle.po_pred.specs.declared.pred.Pred.{Pred}
 use Rattle.po_pred.specs.declared.pred.Rule.{Rule}
@@ -29,13 +28,12 @@ use Rattle.po_memory.specs.declared.frame.Frame.{Frame}
 use Rattle.po_memory.specs.declared.value.Byte.{Byte}
 use Rattle.po_memory.specs.declared.value.Value.{Value}
 use Rattle.po_memory.specs.declared.value.Value.TheVariants.{Number, Null, Pointer, Wild}
-use Rattle.po_memory.specs.Accesses.{Writes, Loads, Stores, Copies, Fills, overwritten}
+use Rattle.po_memory.specs.Accesses.{Writes, overwritten}
 use Rattle.po_memory.specs.Blocks.{IsOfWidth, IsWritable, Spans, OnBlock, OnPointer}
 use Rattle.po_memory.specs.Bytes.{AreRead, LiesIn, zeros}
-use Rattle.po_memory.specs.Holding.{Holds}
 use Rattle.po_memory.specs.Since.{Since, StoresKeep, CopiesKeep, FillsKeep}
 use Rattle.po_memory.specs.Values.{moved, EachNumber}
-use Rattle.po_meaning.specs.Operands.{pointer_value, value_at, slot_block, put, onward}
+use Rattle.po_meaning.specs.Operands.{value_at, put, onward}
 use Rattle.po_meaning.specs.States.{State, IsOf, StandsAt}
 use Rattle.po_meaning.specs.Local.{Local}
 use Rattle.po_meaning.specs.Checks.{AllHold}
@@ -61,13 +59,13 @@ module _ (p : Project) (top : Frame) (rest : List Frame) (m : List Block) (at : 
   after = slice_set m block now
 
   unwritten : AreUnwritten (static_blocks p) m after
-  unwritten b c static here no = by (same_or_not b block)
+  unwritten b c static here fixed = by (same_or_not b block)
     where
       by : (b ≡ block) ⊎ (b ≢ block) → (d : Block) × (slice_get after b ≡ Some d) × (d.bytes ≡ c.bytes)
       by (inl same) =
           let known : whole ≡ c = same_item (slice_get m block) whole c there (subst (λ (i : ℕ). slice_get m i ≡ Some c) same here) in
           let writable : whole.writable ≡ true = may (subst (λ (i : ℕ). i < static_blocks p) same static) in
-          let clash : true ≡ false = sym writable ∙ (ap (λ (d : Block). d.writable) known ∙ no) in
+          let clash : true ≡ false = sym writable ∙ (ap (λ (d : Block). d.writable) known ∙ fixed) in
           absurd (cc)
       by (inr other) = (c, set_other m block b now other ∙ here, refl)
 

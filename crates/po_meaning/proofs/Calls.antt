@@ -1,11 +1,10 @@
 -- A call leads from a state that belongs to a project to one that belongs to it.
-use Rattle.std.specs.Prelude.{ℕ, zero, suc, ◌+◌, ◌-◌, ◌≡◌, ◌≤◌, ◌<◌, ◌⊎◌, ◌↔◌, true, false, Bool, IsTrue, ℤ, pos, List, [], ◌∷◌, ◌++◌, All, Option, Some, None, MatchOption, Contains, length, map, take, replicate, slice_get}
+use Rattle.std.specs.Prelude.{ℕ, zero, suc, ◌-◌, ◌≡◌, ◌≤◌, ◌<◌, false, List, [], ◌∷◌, ◌++◌, All, Option, Some, None, Contains, length, map, take, replicate, slice_get}
 use Rattle.std.proofs.Common.{refl, sym, ap, ◌∙◌, subst, arith, inl, inr, length-append}
 use Rattle.std.proofs.lemmas.List.{length-map, length-replicate, length-take-le}
 use Rattle.std.proofs.lemmas.List.Elements.{All-nil, All-cons}
 use Rattle.po_base.specs.declared.numbers.FunNo.{FunNo}
 use Rattle.po_base.specs.declared.numbers.RegNo.{RegNo}
-use Rattle.po_base.specs.declared.numbers.SlotNo.{SlotNo}
 use Rattle.po_base.specs.declared.operand.Opnd.{Opnd}
 use Rattle.po_base.specs.declared.operand.Opnd.TheVariants as operand
 use Rattle.po_ir.specs.declared.graph.Reg.{Reg as Register}
@@ -18,26 +17,25 @@ use Rattle.po_ir.specs.declared.instr.Instr.{Instr}
 use Rattle.po_ir.specs.declared.instr.Instr.TheVariants.{Call}
 use Rattle.po_ir.specs.declared.project.Function.{Function}
 use Rattle.po_ir.specs.declared.project.Project.{Project}
-use Rattle.po_ir.specs.Instructions.{operands, written, entered, used, followers}
+use Rattle.po_ir.specs.Instructions.{operands, written}
 use Rattle.po_ir.specs.Paths.{Path, start, step, IsWritten}
 use Rattle.po_ir.specs.Types.{Lies, IsKept}
 use Rattle.po_ir.specs.Whole.{Signature, IsWhole, IsUnread, IsTemporary, FunctionFits, CallFits, Passes, type_of, parameter_types}
 use Rattle.po_memory.specs.declared.block.Block.{Block}
 use Rattle.po_memory.specs.declared.frame.Frame.{Frame}
 use Rattle.po_memory.specs.declared.value.Value.{Value}
-use Rattle.po_memory.specs.declared.value.Value.TheVariants.{Number, Null, Pointer, Wild}
+use Rattle.po_memory.specs.declared.value.Value.TheVariants.{Number}
 use Rattle.po_memory.specs.Bytes.{LiesIn}
 use Rattle.po_memory.specs.Passing.{HasValue}
-use Rattle.po_memory.specs.Values.{held, register_value}
+use Rattle.po_memory.specs.Values.{held}
 use Rattle.po_meaning.specs.Operands.{block_held, slot_block, value_at, ArePassed}
 use Rattle.po_meaning.specs.States.{State, IsOf, StandsAt, start_registers, start_frame}
 use Rattle.po_meaning.specs.Steps.{Enters}
 use Rattle.po_meaning.specs.Needs.{Needs}
-use Rattle.po_meaning.specs.Belongs.{HasSome, FrameBelongs, HasEntered, IsOfSlot, SlotsBelong, PointsThere, FramePoints, Belongs}
-use Rattle.po_meaning.proofs.Places.{at_place, same_item}
+use Rattle.po_meaning.specs.Belongs.{HasSome, FrameBelongs, HasEntered, IsOfSlot, PointsThere, FramePoints, Belongs}
+use Rattle.po_meaning.proofs.Places.{at_place}
 use Rattle.po_meaning.proofs.Frames.{Fits, belongs_of, told_at}
 use Rattle.po_meaning.proofs.Entry.{LieIn, lie_in}
-use Rattle.po_meaning.proofs.Memory.{all_places}
 use Rattle.po_meaning.proofs.Plain.{typed_as, pointer_lies, pointer_there, register_lies, arrives}
 use Rattle.po_meaning.proofs.Results.{kept_value}
 use Rattle.po_meaning.proofs.Slots.{needed_entered}

@@ -1,26 +1,22 @@
 -- What holds of the operands of an instruction where all obligations at its node do.
-use Rattle.std.specs.Prelude.{ℕ, zero, suc, ◌+◌, ◌≡◌, ◌<◌, ltb, ℤ, pos, negsuc, ◌+ℤ◌, ◌*ℤ◌, List, [], ◌∷◌, ◌++◌, Bool, true, false, cond, Option, Some, None, slice_get}
+use Rattle.std.specs.Prelude.{ℕ, zero, suc, ◌+◌, ◌≡◌, ltb, ℤ, pos, negsuc, ◌+ℤ◌, ◌*ℤ◌, List, [], ◌∷◌, ◌++◌, All, Bool, true, false, cond, Option, Some, slice_get}
 use Rattle.std.proofs.Common.{refl, sym, ap, ◌∙◌, subst, arith}
 use Rattle.std.proofs.lemmas.Int.{ints}
 use Rattle.std.proofs.lemmas.Bool.{lt-ltb}
+use Rattle.std.proofs.lemmas.List.Elements.{All-nil, All-cons}
 use Rattle.po_base.specs.declared.numbers.FunNo.{FunNo}
 use Rattle.po_base.specs.declared.numbers.NodeNo.{NodeNo}
 use Rattle.po_base.specs.declared.operand.Opnd.{Opnd}
 use Rattle.po_base.specs.declared.operand.Opnd.TheVariants as operand
-use Rattle.po_ir.specs.declared.graph.Graph.{Graph}
-use Rattle.po_ir.specs.declared.graph.Node.{Node}
 use Rattle.po_ir.specs.declared.instr.Access.{Access}
 use Rattle.po_ir.specs.declared.instr.Instr.{Instr}
-use Rattle.po_ir.specs.declared.instr.Ty.TheVariants.{Ptr}
 use Rattle.po_ir.specs.declared.project.Function.{Function}
 use Rattle.po_ir.specs.declared.project.Project.{Project}
-use Rattle.po_ir.specs.Types.{Lies}
 use Rattle.po_core.specs.declared.obl.Cause.TheVariants.{Primary}
 use Rattle.po_core.specs.declared.obl.Obl.{Obl}
 use Rattle.po_core.specs.declared.report.Report.{Report}
-use Rattle.po_pred.specs.declared.pred.Place.{Place}
 use Rattle.po_pred.specs.declared.pred.Pred.{Pred}
-use Rattle.po_pred.specs.declared.pred.Pred.TheVariants.{NotNull, Live, Span, Writable, Aligned}
+use Rattle.po_pred.specs.declared.pred.Pred.TheVariants.{Writable, Aligned}
 use Rattle.po_pred.specs.declared.pred.Rule.{Rule}
 use Rattle.po_gen.specs.Reads.{reads}
 use Rattle.po_gen.specs.Asks.{Required, asks, place, number, spans, alignment, load, store, copy}
@@ -32,7 +28,7 @@ use Rattle.po_memory.specs.declared.value.Value.TheVariants.{Number, Null, Point
 use Rattle.po_memory.specs.Values.{moved, EachPointer, EachNumber}
 use Rattle.po_memory.specs.Blocks.{IsLive, Spans, IsWritable, IsAligned, IsNotNull, OnPointer}
 use Rattle.po_memory.specs.Holding.{Holds}
-use Rattle.po_memory.specs.Accesses.{Means, StoreAllowed}
+use Rattle.po_memory.specs.Accesses.{StoreAllowed}
 use Rattle.po_meaning.specs.Operands.{pointer_value, Is}
 use Rattle.po_meaning.specs.States.{State, StandsAt}
 use Rattle.po_meaning.specs.Checks.{Asked, obligation, numbered, supports, AllHold}
@@ -55,6 +51,10 @@ pub each_last : {X : Type 0} (P : X → Type 0) (xs ys : List X) → Each P (xs 
 each_last P [] ys h = h
 each_last P (x ∷ xs) ys h = each_last P xs ys h.1
 
+pub each_all : {X : Type 0} (P : X → Type 0) (xs : List X) → Each P xs → All P xs
+each_all P [] h = All-nil P
+each_all P (x ∷ xs) h = All-cons P x xs h.0 (each_all P xs h.1)
+
 some_is : {X : Type 0} (x y : X) → Some x ≡ Some y → x ≡ y
 some_is x y same = cc
 
@@ -71,15 +71,12 @@ gen_is required p frame f i stands =
     ∙ (ap (gen_node required f.graph) stands.node.1 ∙ ap (gen_instr required f.graph) stands.node.2)
 
 pub asks_hold : (required : Required) (p : Project) (r : Report Pred Rule) (s : State) (f : Function) (i : Instr) → StandsAt p s.top f i → AllHold required p r s → Each (Holds s.top s.memory) (asks required f.graph i)
-asks_hold required p r s f i stands held = each_last H (reads f.graph i) (asks required f.graph i) (each_of H (gen_instr required f.graph i) at)
+asks_hold required p r s f i stands held = each_last (Holds s.top s.memory) (reads f.graph i) (asks required f.graph i) (each_of (Holds s.top s.memory) (gen_instr required f.graph i) at)
   where
-    abbrev H : Pred → Type 0
-    H q = Holds s.top s.memory q
-
-    at : (j : ℕ) (q : Pred) → slice_get (gen_instr required f.graph i) j ≡ Some q → H q
+    at : (j : ℕ) (q : Pred) → slice_get (gen_instr required f.graph i) j ≡ Some q → Holds s.top s.memory q
     at j q here =
         let found = asked_at s.top.function s.top.node 0 (gen required p s.top.function s.top.node) j q (supports p r s.top.function s.top.node)
-            (subst (λ (qs : List Pred). slice_get qs j ≡ Some q) (sym (gen_is required p s.top f i stands)) here) in
+        (subst (λ (qs : List Pred). slice_get qs j ≡ Some q) (sym (gen_is required p s.top f i stands)) here) in
         held j (found.0, q) found.1
 
 -- ---- operands
@@ -122,8 +119,8 @@ module _ (fr : Frame) (m : List Block) (a : Opnd) (v : Value) (is : pointer_valu
       (on_constant fr (pos size) (λ hi. OnPointer (Spans (pos 1 *ℤ pos 0) (pos 1 *ℤ hi)) m v) from))
 
   aligned_in : (align : ℕ) (b : Bool) → b ≡ true → Each (Holds fr m) (cond b (Aligned (place a) align ∷ []) []) → OnPointer (IsAligned align) m v
-  aligned_in align true yes h = on_pointer fr a v (OnPointer (IsAligned align) m) is h.0
-  aligned_in align false yes h = absurd (cc)
+  aligned_in align true is_true h = on_pointer fr a v (OnPointer (IsAligned align) m) is h.0
+  aligned_in align false is_true h = absurd (cc)
 
   pub load_spans : (access : Access) → Each (Holds fr m) (load (place a) access) → OnPointer (Spans (pos 0) (pos access.size)) m v
   load_spans access h = spanned access.size h.1.1.0

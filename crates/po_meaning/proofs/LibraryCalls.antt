@@ -1,21 +1,19 @@
 -- A call of a library function that keeps what it has to keep leads from a state that belongs to a project to one that belongs to it.
-use Rattle.std.specs.Prelude.{ℕ, ◌+◌, ◌≡◌, true, List, [], ◌∷◌, Option, Some, None, MatchOption, slice_get}
+use Rattle.std.specs.Prelude.{ℕ, ◌+◌, ◌≡◌, true, List, [], Option, Some, None, slice_get}
 use Rattle.std.proofs.Common.{refl, sym, subst}
 use Rattle.po_base.specs.declared.numbers.LibNo.{LibNo}
 use Rattle.po_base.specs.declared.numbers.RegNo.{RegNo}
 use Rattle.po_base.specs.declared.operand.Opnd.{Opnd}
 use Rattle.po_ir.specs.declared.instr.Ty.{Ty}
-use Rattle.po_ir.specs.declared.instr.Instr.{Instr}
 use Rattle.po_ir.specs.declared.instr.Instr.TheVariants.{Lib}
 use Rattle.po_ir.specs.declared.project.Function.{Function}
 use Rattle.po_ir.specs.declared.project.Project.{Project}
-use Rattle.po_ir.specs.Whole.{Signature, IsWhole, FunctionFits, LibraryCallFits, Receives, HoldsResult}
-use Rattle.po_memory.specs.declared.block.Block.{Block}
+use Rattle.po_ir.specs.Whole.{Signature, FunctionFits, LibraryCallFits, Receives, HoldsResult}
 use Rattle.po_memory.specs.declared.value.Value.{Value}
 use Rattle.po_meaning.specs.Operands.{receive}
 use Rattle.po_meaning.specs.States.{State, StandsAt}
 use Rattle.po_meaning.specs.Belongs.{static_blocks, Belongs}
-use Rattle.po_meaning.specs.Staying.{IsOutcome, OutcomeFits, LibraryStepsStay}
+use Rattle.po_meaning.specs.Staying.{IsOutcome, LibraryStepsStay}
 use Rattle.po_meaning.proofs.Places.{at_place, same_item, is_first}
 use Rattle.po_meaning.proofs.Frames.{told_at}
 use Rattle.po_meaning.proofs.Memory.{Lives, kept_since, belongs_after}

@@ -1,10 +1,9 @@
 -- What may come to the blocks so that a state still belongs to its project.
-use Rattle.std.specs.Prelude.{ℕ, zero, suc, ◌+◌, ◌≡◌, ◌≢◌, ◌≤◌, ◌<◌, ◌⊎◌, false, true, ℤ, List, [], ◌∷◌, ◌++◌, All, Bool, Option, Some, None, length, map, take, slice_get, slice_set, slice_index_or}
+use Rattle.std.specs.Prelude.{ℕ, zero, suc, ◌+◌, ◌≡◌, ◌≢◌, ◌≤◌, ◌<◌, ◌⊎◌, false, true, ℤ, List, [], ◌∷◌, ◌++◌, All, Bool, Some, length, take, slice_get, slice_set, slice_index_or}
 use Rattle.std.proofs.Common.{refl, sym, ap, ◌∙◌, subst, arith, inl, inr}
 use Rattle.std.proofs.lemmas.Option.{slice_get_within, slice_get-get_or}
 use Rattle.po_arith.specs.declared.target.Target.{Target}
 use Rattle.po_ir.specs.declared.graph.Slot.{Slot}
-use Rattle.po_ir.specs.declared.project.Function.{Function}
 use Rattle.po_ir.specs.declared.project.Global.{Global}
 use Rattle.po_ir.specs.declared.project.Project.{Project}
 use Rattle.po_ir.specs.Whole.{greatest_size}
@@ -15,9 +14,7 @@ use Rattle.po_memory.specs.declared.value.Byte.TheVariants as byte
 use Rattle.po_memory.specs.declared.value.Value.{Value}
 use Rattle.po_memory.specs.declared.value.Value.TheVariants.{Number, Null, Pointer, Wild}
 use Rattle.po_memory.specs.Since.{BlockSince, Since}
-use Rattle.po_meaning.specs.Operands.{slot_block}
-use Rattle.po_meaning.specs.States.{State, frames, IsOf}
-use Rattle.po_meaning.specs.Belongs.{static_blocks, HasEntered, IsOfSlot, SlotsBelong, IsFull, IsOfGlobal, IsOfLiteral, ended, StaticsBelong, IsThere, PointsThere, IsPartThere, FramePoints, PointersBelong, Belongs}
+use Rattle.po_meaning.specs.Belongs.{static_blocks, HasEntered, IsOfSlot, SlotsBelong, IsFull, IsOfGlobal, IsOfLiteral, StaticsBelong, IsThere, PointsThere, IsPartThere, FramePoints, Belongs}
 use Rattle.po_meaning.specs.Staying.{AreUnwritten}
 use Rattle.po_meaning.proofs.Places.{at_place, same_item, same_or_not, item_at, set_same, set_other}
 use Rattle.po_meaning.proofs.States.{state}
@@ -198,7 +195,6 @@ module _ (p : Project) (top : Frame) (rest : List Frame) (m w : List Block) (Die
       blocks_point = parts;
     };
   }
-
 
 -- ---- one block that changes, and one more
 

@@ -1,15 +1,13 @@
 -- The pointers whose parts stand in bytes that are stored, copied, written over others and read.
-use Rattle.std.specs.Prelude.{ℕ, suc, ◌+◌, ◌-◌, ◌≡◌, ◌≤◌, pos, ◌+ℤ◌, ◌≤ℤ◌, List, [], ◌∷◌, ◌++◌, All, Some, length, map, take, drop, slice_get, slice_range}
+use Rattle.std.specs.Prelude.{ℕ, suc, ◌+◌, ◌-◌, ◌≡◌, ◌≤◌, pos, ◌+ℤ◌, ◌≤ℤ◌, List, [], ◌∷◌, ◌++◌, All, length, map, take, drop, slice_get}
 use Rattle.std.specs.List.{range_with_len}
-use Rattle.std.proofs.Common.{refl, sym, ap, ◌∙◌, subst, arith, length-drop}
+use Rattle.std.proofs.Common.{sym, ap, ◌∙◌, subst, arith, length-drop}
 use Rattle.std.proofs.lemmas.Int.{ints}
 use Rattle.std.proofs.lemmas.List.{length-take-le}
 use Rattle.std.proofs.lemmas.List.Elements.{All-nil, All-cons, All-append, All-map, All-take, All-drop, All-replicate}
-use Rattle.po_arith.specs.declared.int_type.IntType.{IntType}
 use Rattle.po_arith.specs.declared.target.Target.{Target}
 use Rattle.po_ir.specs.declared.instr.Ty.{Ty}
 use Rattle.po_ir.specs.declared.instr.Ty.TheVariants.{Int, Ptr}
-use Rattle.po_ir.specs.Types.{IsKept}
 use Rattle.po_memory.specs.declared.block.Block.{Block}
 use Rattle.po_memory.specs.declared.value.Byte.{Byte}
 use Rattle.po_memory.specs.declared.value.Byte.TheVariants as byte
@@ -18,7 +16,7 @@ use Rattle.po_memory.specs.declared.value.Value.TheVariants.{Number, Null, Point
 use Rattle.po_memory.specs.Accesses.{PointsInto, pasted, Reads}
 use Rattle.po_memory.specs.Blocks.{Spans, OnBlock, OnPointer}
 use Rattle.po_memory.specs.Bytes.{AreStored, IsCopied, AreCopied, AreRead, LiesIn, zeros}
-use Rattle.po_meaning.specs.Belongs.{IsThere, PointsThere, IsPartThere}
+use Rattle.po_meaning.specs.Belongs.{PointsThere, IsPartThere}
 use Rattle.po_meaning.proofs.Places.{All-head, All-tail, at_place}
 
 module _ (target : Target) (m : List Block) where

@@ -1,12 +1,9 @@
 -- A return leads from a state that belongs to a project to one that belongs to it.
-use Rattle.std.specs.Prelude.{ℕ, zero, suc, ◌+◌, ◌≡◌, ◌≤◌, List, [], ◌∷◌, Option, Some, None, MatchOption, Contains, slice_get}
+use Rattle.std.specs.Prelude.{ℕ, zero, suc, ◌+◌, ◌≡◌, List, [], ◌∷◌, Option, Some, None, slice_get}
 use Rattle.std.proofs.Common.{refl, sym, ap, ◌∙◌, subst, arith}
-use Rattle.po_base.specs.declared.numbers.FunNo.{FunNo}
 use Rattle.po_base.specs.declared.numbers.RegNo.{RegNo}
 use Rattle.po_base.specs.declared.operand.Opnd.{Opnd}
 use Rattle.po_ir.specs.declared.graph.Node.{Node}
-use Rattle.po_ir.specs.declared.graph.Reg.{Reg as Register}
-use Rattle.po_ir.specs.declared.graph.Slot.{Slot}
 use Rattle.po_ir.specs.declared.graph.Graph.{Graph}
 use Rattle.po_ir.specs.declared.instr.Ty.{Ty}
 use Rattle.po_ir.specs.declared.instr.Callee.{Callee}
@@ -16,19 +13,18 @@ use Rattle.po_ir.specs.declared.instr.Instr.{Instr}
 use Rattle.po_ir.specs.declared.instr.Instr.TheVariants.{Call, Return, Never}
 use Rattle.po_ir.specs.declared.project.Function.{Function}
 use Rattle.po_ir.specs.declared.project.Project.{Project}
-use Rattle.po_ir.specs.Instructions.{written, entered, followers}
 use Rattle.po_ir.specs.Paths.{NodeAt}
-use Rattle.po_ir.specs.Types.{TypeIs, Lies, IsResultType}
+use Rattle.po_ir.specs.Types.{Lies, IsResultType}
 use Rattle.po_ir.specs.Whole.{Signature, IsWhole, IsUnread, FunctionFits, CallFits, Receives, Gives}
 use Rattle.po_memory.specs.declared.block.Block.{Block}
 use Rattle.po_memory.specs.declared.frame.Frame.{Frame}
 use Rattle.po_memory.specs.declared.value.Value.{Value}
 use Rattle.po_memory.specs.Bytes.{LiesIn}
-use Rattle.po_meaning.specs.Operands.{block_held, slot_block, value_at, onward, put, receive}
-use Rattle.po_meaning.specs.States.{State, frames, IsOf, StandsAt}
+use Rattle.po_meaning.specs.Operands.{block_held, slot_block, value_at, receive}
+use Rattle.po_meaning.specs.States.{State, StandsAt}
 use Rattle.po_meaning.specs.Steps.{Returned, Returns}
-use Rattle.po_meaning.specs.Belongs.{FrameBelongs, Calls, Wait, static_blocks, HasEntered, SlotsBelong, PointsThere, FramePoints, Belongs}
-use Rattle.po_meaning.proofs.Places.{at_place, same_item, is_first, All-head, All-tail}
+use Rattle.po_meaning.specs.Belongs.{FrameBelongs, Calls, HasEntered, PointsThere, FramePoints, Belongs}
+use Rattle.po_meaning.proofs.Places.{at_place, same_item, is_first, All-tail}
 use Rattle.po_meaning.proofs.Frames.{told_at}
 use Rattle.po_meaning.proofs.Plain.{typed_as, put_stays, goes_stays, arrives}
 use Rattle.po_meaning.proofs.ResultTypes.{one_type, not_void}

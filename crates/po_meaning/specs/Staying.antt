@@ -18,7 +18,6 @@ use Rattle.po_memory.specs.declared.value.Value.{Value}
 use Rattle.po_memory.specs.Bytes.{LiesIn}
 use Rattle.po_memory.specs.Since.{Since}
 use Rattle.po_gen.specs.Asks.{Required}
-use Rattle.po_gen.specs.IntTypes.{AreTypesOfTarget}
 use Rattle.po_meaning.specs.Operands.{receive}
 use Rattle.po_meaning.specs.States.{State, StandsAt}
 use Rattle.po_meaning.specs.Steps.{Moves}
@@ -29,7 +28,7 @@ use Rattle.po_meaning.specs.Belongs.{static_blocks, PointsThere, IsPartThere, Be
 -- that belongs to it
 abbrev pub StepsStay : Type 0
 StepsStay =
-    (required : Required) (library : List Signature) (p : Project) (r : Report Pred Rule) (f : Function) (i : Instr) (s u : State) → IsWhole library p → AreTypesOfTarget p → StandsAt p s.top f i →
+    (required : Required) (library : List Signature) (p : Project) (r : Report Pred Rule) (f : Function) (i : Instr) (s u : State) → IsWhole library p → StandsAt p s.top f i →
     AllHold required p r s → Moves p f i s u → Belongs p s → Belongs p u
 
 -- ---- the library
