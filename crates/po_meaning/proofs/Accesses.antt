@@ -94,12 +94,12 @@ module _ (p : Project) (top : Frame) (rest : List Frame) (m : List Block) (at : 
 
 written_stays : (p : Project) (top : Frame) (rest : List Frame) (m : List Block) (at : Value) (bytes : List Byte) (after : List Block) (w : Writes m at bytes after) → Since false true m after → (w.block < static_blocks p → w.whole.writable ≡ true) →
     All (IsPartThere p.target m) bytes → Belongs p (state top rest m) → Belongs p (state top rest after)
-written_stays p top rest m at bytes after w since may parts before =
+written_stays p top rest m at bytes l w since may parts before =
     subst (λ (l : List Block). Belongs p (state top rest l)) (sym w.becomes)
     (overwritten_stays p top rest m at bytes w.block w.start w.whole w.points.there (subst (Since false true m) w.becomes since) may parts before)
 
 writable_there : (m : List Block) (at : Value) (bytes : List Byte) (after : List Block) (w : Writes m at bytes after) → OnPointer IsWritable m at → w.whole.writable ≡ true
-writable_there m at bytes after w is =
+writable_there m at bytes l w is =
     let on : OnBlock IsWritable (pos w.start) (slice_get m w.block) = subst (OnPointer IsWritable m) w.points.pointer is in
     subst (OnBlock IsWritable (pos w.start)) w.points.there on
 

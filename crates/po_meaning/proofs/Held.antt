@@ -70,14 +70,18 @@ gen_is required p frame f i stands =
     ap (λ (o : Option Function). gen_in required o frame.node) stands.of
     ∙ (ap (gen_node required f.graph) stands.node.1 ∙ ap (gen_instr required f.graph) stands.node.2)
 
-pub asks_hold : (required : Required) (p : Project) (r : Report Pred Rule) (s : State) (f : Function) (i : Instr) → StandsAt p s.top f i → AllHold required p r s → Each (Holds s.top s.memory) (asks required f.graph i)
-asks_hold required p r s f i stands held = each_last (Holds s.top s.memory) (reads f.graph i) (asks required f.graph i) (each_of (Holds s.top s.memory) (gen_instr required f.graph i) at)
+pub gen_hold : (required : Required) (p : Project) (r : Report Pred Rule) (s : State) (f : Function) (i : Instr) → StandsAt p s.top f i → AllHold required p r s → Each (Holds s.top s.memory) (gen_instr required f.graph i)
+gen_hold required p r s f i stands held = each_of (Holds s.top s.memory) (gen_instr required f.graph i) at
   where
     at : (j : ℕ) (q : Pred) → slice_get (gen_instr required f.graph i) j ≡ Some q → Holds s.top s.memory q
     at j q here =
-        let found = asked_at s.top.function s.top.node 0 (gen required p s.top.function s.top.node) j q (supports p r s.top.function s.top.node)
-        (subst (λ (qs : List Pred). slice_get qs j ≡ Some q) (sym (gen_is required p s.top f i stands)) here) in
+        let found =
+            asked_at s.top.function s.top.node 0 (gen required p s.top.function s.top.node) j q (supports p r s.top.function s.top.node)
+            (subst (λ (qs : List Pred). slice_get qs j ≡ Some q) (sym (gen_is required p s.top f i stands)) here) in
         held j (found.0, q) found.1
+
+pub asks_hold : (required : Required) (p : Project) (r : Report Pred Rule) (s : State) (f : Function) (i : Instr) → StandsAt p s.top f i → AllHold required p r s → Each (Holds s.top s.memory) (asks required f.graph i)
+asks_hold required p r s f i stands held = each_last (Holds s.top s.memory) (reads f.graph i) (asks required f.graph i) (gen_hold required p r s f i stands held)
 
 -- ---- operands
 

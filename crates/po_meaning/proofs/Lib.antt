@@ -15,3 +15,8 @@ mod ResultTypes
 mod Returns
 mod LibraryCalls
 mod Steps
+mod Having
+mod Deciding
+mod Choices
+mod Arithmetic
+mod Following

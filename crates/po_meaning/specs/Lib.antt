@@ -11,3 +11,4 @@ pub mod Belongs
 pub mod Shown
 pub mod Laws
 pub mod Staying
+pub mod Following

@@ -89,3 +89,8 @@ Moves p f i s u = Local p f.graph i s.top s.memory u.top u.memory × (u.rest ≡
 abbrev pub StepOf : Library → Project → Function → Instr → State → State → Type 0
 StepOf l p f (Lib to lib args strings) s u = LibraryReturns l to lib args s u
 StepOf l p f i s u = Moves p f i s u
+
+-- a return for which no frame waits ends the run (6.8.6.4p3, 5.1.2.2.3p1)
+abbrev pub IsLast : Instr → State → Type 0
+IsLast (Return value) s = s.rest ≡ []
+IsLast i s = ⊥

@@ -1,4 +1,5 @@
 ghost use Rattle.po_meaning.specs.Laws.{OneIsFirst, NoneIsFirst, EntryKeepsHolds, PlainStepsStay};
+ghost use Rattle.po_meaning.specs.Following.{OneOrAll, StatesFollow};
 ghost use Rattle.po_meaning.specs.Staying.{LibraryStepsStay, StepsStay};
 
 use po_interval::{members_of_results_are_of_type, results_are_allowed};
@@ -45,4 +46,15 @@ pub fn steps_stay()
 /// belongs to it. It does nothing.
 pub fn library_steps_stay()
     ensures { LibraryStepsStay }
+{}
+
+/// Where it is decided of each obligation whether it holds, one is violated first, or all hold. It does nothing.
+pub fn one_or_all()
+    ensures { OneOrAll }
+{}
+
+/// Where all obligations hold in a state that belongs to a whole project, and no library function is called, a state follows or
+/// the run ends. It does nothing.
+pub fn states_follow()
+    ensures { StatesFollow }
 {}
