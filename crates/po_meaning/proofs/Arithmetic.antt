@@ -1,5 +1,5 @@
 -- Where the obligations of an operator or a conversion hold it has a result.
-use Rattle.std.specs.Prelude.{ℕ, zero, suc, ◌+◌, ◌-◌, ◌*◌, ◌/◌, ◌%◌, ◌^◌, ◌≡◌, ◌≢◌, ◌≤◌, ◌<◌, ◌⊎◌, ◌&&◌, true, false, not, cond, int_le, int_lt, Bool, ℤ, pos, negsuc, neg_ℤ, ◌+ℤ◌, ◌-ℤ◌, ◌*ℤ◌, ◌≤ℤ◌, ◌<ℤ◌, int_div, int_rem, List, [], ◌∷◌, Option, Some, None, slice_get}
+use Rattle.std.specs.Prelude.{ℕ, zero, suc, ◌-◌, ◌*◌, ◌/◌, ◌^◌, ◌≡◌, ◌≢◌, ◌≤◌, ◌<◌, ◌⊎◌, ◌&&◌, true, false, not, cond, int_le, int_lt, Bool, ℤ, pos, negsuc, neg_ℤ, ◌+ℤ◌, ◌-ℤ◌, ◌*ℤ◌, ◌≤ℤ◌, ◌<ℤ◌, int_div, int_rem, List, [], ◌∷◌, Some, None}
 use Rattle.std.specs.Int.{int_shr, int_bit_and, int_bit_or, int_bit_xor, w128}
 use Rattle.std.specs.Int.RustNames.{unsigned_abs}
 use Rattle.std.specs.Ordering.{int_eq}
@@ -18,18 +18,15 @@ use Rattle.po_arith.specs.declared.int_type.IntType.{IntType}
 use Rattle.po_arith.specs.Types.{IsWidth, IsIntType, IsOfType, least, greatest}
 use Rattle.po_arith.specs.Ranges.{shifted_up, shifted_down}
 use Rattle.po_arith.proofs.BitsKept.{and_of_type, or_of_type, xor_of_type}
-use Rattle.po_arith.proofs.Comparing.{le_since, le_tells}
+use Rattle.po_arith.proofs.Comparing.{le_since}
 use Rattle.po_arith.proofs.Powers.{pow_up}
 use Rattle.po_arith.proofs.Sizes.{sign_of, least_unsigned}
-use Rattle.po_arith.proofs.Wrapped.{spans}
 use Rattle.po_interval.specs.Ranges.{complement_from}
-use Rattle.po_interval.specs.Results.{is_between, given, modulo, conv, truth, is_count, can_divide, conv_all, exact, binary, un_exact, unary}
-use Rattle.po_ir.specs.declared.graph.Graph.{Graph}
+use Rattle.po_interval.specs.Results.{is_between, given, modulo, conv, truth, is_count, can_divide, conv_all, binary, unary}
 use Rattle.po_ir.specs.Types.{is_shift}
 use Rattle.po_pred.specs.declared.pred.Over.{Over}
 use Rattle.po_pred.specs.declared.pred.Over.TheVariants as over
-use Rattle.po_pred.specs.declared.pred.Pred.{Pred}
-use Rattle.po_pred.specs.declared.pred.Pred.TheVariants.{Nonzero, NoOver, IntIn}
+use Rattle.po_pred.specs.declared.pred.Pred.TheVariants.{Nonzero, NoOver}
 use Rattle.po_gen.specs.Asks.{place, overflow, count, operator, sign}
 use Rattle.po_memory.specs.declared.block.Block.{Block}
 use Rattle.po_memory.specs.declared.frame.Frame.{Frame}
@@ -162,10 +159,12 @@ module _ (fr : Frame) (m : List Block) (t : IntType) (is : IsIntType t) (a : Opn
 
     divides : (o : Over) → (StaysIn o t.bits v w → (v ≡ neg_ℤ (pos (half t.bits))) × (w ≡ negsuc 0) → ⊥) → Holds fr m (Nonzero (place b)) → Each (Holds fr m) (overflow o t (place a) (place b)) →
         (can_divide t v w ≡ true) × (t.signed ≡ true → (v ≡ neg_ℤ (pos (half t.bits))) × (w ≡ negsuc 0) → ⊥)
-    divides o means nonzero h =
-        (both (not (int_eq w (pos 0))) (not (t.signed && int_eq v (least t) && int_eq w (neg_ℤ (pos 1))))
-        (not_false (int_eq w (pos 0)) (isnt (int_eq w (pos 0)) (λ same. on_number fr b w (λ z. z ≢ pos 0) had nonzero ((Decides-int_eq w (pos 0)).0 same))))
-        (not_false (t.signed && int_eq v (least t) && int_eq w (neg_ℤ (pos 1))) (isnt (t.signed && int_eq v (least t) && int_eq w (neg_ℤ (pos 1))) clash)), never)
+    divides o means nonzero h = (
+      both (not (int_eq w (pos 0))) (not (t.signed && int_eq v (least t) && int_eq w (neg_ℤ (pos 1))))
+          (not_false (int_eq w (pos 0)) (isnt (int_eq w (pos 0)) (λ same. on_number fr b w (λ z. z ≢ pos 0) had nonzero ((Decides-int_eq w (pos 0)).0 same))))
+          (not_false (t.signed && int_eq v (least t) && int_eq w (neg_ℤ (pos 1))) (isnt (t.signed && int_eq v (least t) && int_eq w (neg_ℤ (pos 1))) clash)),
+      never,
+    )
       where
         never : t.signed ≡ true → (v ≡ neg_ℤ (pos (half t.bits))) × (w ≡ negsuc 0) → ⊥
         never signed = means (no_over o signed h)

@@ -1,19 +1,17 @@
 -- There are values, bytes and blocks of which a step can choose.
-use Rattle.std.specs.Prelude.{ℕ, zero, suc, ◌+◌, ◌-◌, ◌*◌, ◌%◌, ◌^◌, ◌≡◌, ◌≢◌, ◌≤◌, ◌<◌, ◌⊎◌, ◌==◌, ◌&&◌, true, false, not, cond, int_le, Bool, ℤ, pos, negsuc, ◌+ℤ◌, ◌-ℤ◌, ◌≤ℤ◌, List, [], ◌∷◌, ◌++◌, All, Option, Some, None, length, map, slice_get, slice_set, slice_range, int_div}
+use Rattle.std.specs.Prelude.{ℕ, suc, ◌+◌, ◌*◌, ◌^◌, ◌≡◌, ◌≢◌, ◌≤◌, ◌<◌, ◌⊎◌, true, false, not, int_le, Bool, ℤ, pos, negsuc, ◌-ℤ◌, ◌≤ℤ◌, List, [], ◌∷◌, Option, Some, None, length, map, slice_get, slice_set, slice_range}
 use Rattle.std.specs.Int.{int_rem_euclid}
 use Rattle.std.specs.Ordering.{int_eq}
 use Rattle.std.specs.List.{range_with_len}
 use Rattle.std.proofs.Common.{refl, sym, ap, ◌∙◌, subst, arith, inl, inr}
 use Rattle.std.proofs.lemmas.Int.{ints}
-use Rattle.std.proofs.lemmas.Nat.{pow_pos}
 use Rattle.std.proofs.lemmas.Bool.{cases_lt}
 use Rattle.std.proofs.lemmas.List.{length-set}
 use Rattle.std.proofs.lemmas.List.Elements.{All-head, All-tail}
-use Rattle.std.proofs.lemmas.Option.{slice_get_within}
 use Rattle.po_base.specs.declared.operators.Op.{Op}
 use Rattle.po_base.specs.declared.operators.Op.TheVariants as op
 use Rattle.po_arith.specs.declared.int_type.IntType.{IntType}
-use Rattle.po_arith.specs.Types.{IsIntType, IsOfType, IsWrapped, AreCongruent, greatest}
+use Rattle.po_arith.specs.Types.{IsIntType, IsWrapped, AreCongruent, greatest}
 use Rattle.po_arith.proofs.Comparing.{le_tells, le_false}
 use Rattle.po_arith.proofs.Wrapped.{rest_is_low, rest_is_congruent, wrapped_low, wrapped_high}
 use Rattle.po_ir.specs.declared.instr.Access.{Access}
@@ -25,16 +23,15 @@ use Rattle.po_memory.specs.declared.value.Byte.{Byte}
 use Rattle.po_memory.specs.declared.value.Byte.TheVariants as byte
 use Rattle.po_memory.specs.declared.value.Value.{Value}
 use Rattle.po_memory.specs.declared.value.Value.TheVariants.{Number, Null, Pointer, Wild}
-use Rattle.po_memory.specs.Accesses.{PointsInto, Reads, Writes, Loads, Stores, Copies, Kills, killed, overwritten}
+use Rattle.po_memory.specs.Accesses.{PointsInto, Reads, Writes, Kills, killed, overwritten}
 use Rattle.po_memory.specs.Blocks.{IsNotNull, IsLive, Spans, IntoOne, OnBlock, OnPointer}
-use Rattle.po_memory.specs.Bytes.{AreNumbers, AreRead, AreStored, IsCopied, AreCopied, IsNumberRead, IsPointerRead, IsAccess, IsTypeOfTarget, HasSize, LiesIn, zeros, parts}
+use Rattle.po_memory.specs.Bytes.{AreNumbers, AreRead, AreStored, IsCopied, AreCopied, IsPointerRead, IsAccess, IsTypeOfTarget, HasSize, LiesIn, zeros, parts}
 use Rattle.po_memory.specs.Walking.{AreNoNumbers, AreJoined, IsWordOf, written_bytes}
 use Rattle.po_memory.proofs.Numbers.{none_joined, one_joined}
 use Rattle.po_memory.proofs.ReadBytes.{access_size, chosen, chosen_none, may_be_read}
 use Rattle.po_memory.proofs.WrittenBytes.{bytes_stored}
 use Rattle.po_meaning.specs.Pointers.{compares, MayEqual, MayOrder, MayCompare}
 use Rattle.po_meaning.specs.Steps.{KillsAll}
-use Rattle.po_meaning.proofs.Parts.{read_size}
 use Rattle.po_meaning.proofs.Places.{item_at, same_or_not}
 
 -- ---- numbers

@@ -1,15 +1,14 @@
 -- Where all obligations hold in a state that belongs to a project, a state follows or the run ends.
-use Rattle.std.specs.Prelude.{ℕ, zero, suc, ◌+◌, ◌*◌, ◌≡◌, ◌≤◌, ◌<◌, ◌⊎◌, ◌&&◌, true, false, not, cond, int_le, Bool, ℤ, pos, ◌≤ℤ◌, ◌-ℤ◌, ◌*ℤ◌, int_div, List, [], ◌∷◌, ◌++◌, All, Option, Some, None, MatchOption, length, replicate, slice_get}
-use Rattle.std.proofs.Common.{refl, sym, ap, ◌∙◌, subst, arith, inl, inr}
+use Rattle.std.specs.Prelude.{ℕ, ◌+◌, ◌≡◌, ◌<◌, ◌⊎◌, ◌&&◌, true, false, not, cond, int_le, Bool, ℤ, pos, ◌≤ℤ◌, ◌-ℤ◌, ◌*ℤ◌, int_div, List, [], ◌∷◌, ◌++◌, All, Option, Some, None, MatchOption, length, replicate, slice_get}
+use Rattle.std.proofs.Common.{refl, sym, ◌∙◌, subst, arith, inl, inr}
 use Rattle.std.proofs.lemmas.Bool.{and_parts}
 use Rattle.std.proofs.lemmas.Int.{ints}
 use Rattle.std.proofs.lemmas.Option.{slice_get_within}
 use Rattle.po_base.specs.declared.numbers.FunNo.{FunNo}
-use Rattle.po_base.specs.declared.numbers.GlobalNo.{GlobalNo}
+use Rattle.po_base.specs.declared.numbers.LibNo.{LibNo}
 use Rattle.po_base.specs.declared.numbers.NodeNo.{NodeNo}
 use Rattle.po_base.specs.declared.numbers.RegNo.{RegNo}
 use Rattle.po_base.specs.declared.numbers.SlotNo.{SlotNo}
-use Rattle.po_base.specs.declared.numbers.StrNo.{StrNo}
 use Rattle.po_base.specs.declared.operators.Op.{Op}
 use Rattle.po_base.specs.declared.operators.Op.TheVariants as op
 use Rattle.po_base.specs.declared.operators.UnOp.{UnOp}
@@ -18,11 +17,9 @@ use Rattle.po_base.specs.declared.operand.Opnd.TheVariants as operand
 use Rattle.po_arith.specs.declared.int_type.IntType.{IntType}
 use Rattle.po_arith.specs.Types.{IsIntType, IsOfType, least, greatest}
 use Rattle.po_arith.proofs.Comparing.{le_tells}
-use Rattle.po_interval.specs.Results.{truth, binary, unary, conv}
-use Rattle.po_ir.specs.declared.graph.Graph.{Graph}
+use Rattle.po_interval.specs.Results.{truth}
 use Rattle.po_ir.specs.declared.graph.Node.{Node}
 use Rattle.po_ir.specs.declared.graph.Reg.{Reg as Register}
-use Rattle.po_ir.specs.declared.graph.Slot.{Slot}
 use Rattle.po_ir.specs.declared.instr.Access.{Access}
 use Rattle.po_ir.specs.declared.instr.Callee.TheVariants.{Fun, Extern as Undefined}
 use Rattle.po_ir.specs.declared.instr.Ty.{Ty}
@@ -37,42 +34,37 @@ use Rattle.po_ir.specs.IntTypes as ir
 use Rattle.po_ir.specs.Instructions.{operands, used}
 use Rattle.po_ir.specs.Types.{TypeIs, IsKept, IsValue, IsInteger, Lies, LiesAmongIntegers, is_comparison, is_shift}
 use Rattle.po_ir.specs.Valid.{IsThere, NamesParts}
-use Rattle.po_ir.specs.Whole.{Signature, IsWhole, FunctionFits, InstructionFits, AccessFits, Passes, Gives, parameter_types}
+use Rattle.po_ir.specs.Whole.{Signature, IsWhole, FunctionFits, InstructionFits, AccessFits, LibraryCallFits, Passes, Gives, parameter_types}
 use Rattle.po_core.specs.declared.report.Report.{Report}
 use Rattle.po_pred.specs.declared.pred.Pred.{Pred}
-use Rattle.po_pred.specs.declared.pred.Pred.TheVariants.{SameBlock, IntIn}
 use Rattle.po_pred.specs.declared.pred.Rule.{Rule}
-use Rattle.po_gen.specs.Asks.{Required, asks, place, pair, comparison, conversion, keeps, keeps_type, keeps_register, is_of_type, in_type}
+use Rattle.po_gen.specs.Asks.{Required, asks, place, pair, comparison, keeps, keeps_type, keeps_register, is_of_type, in_type}
 use Rattle.po_memory.specs.declared.block.Block.{Block}
 use Rattle.po_memory.specs.declared.frame.Frame.{Frame}
-use Rattle.po_memory.specs.declared.value.Byte.{Byte}
 use Rattle.po_memory.specs.declared.value.Byte.TheVariants.{Blank}
 use Rattle.po_memory.specs.declared.value.Value.{Value}
-use Rattle.po_memory.specs.declared.value.Value.TheVariants.{Number, Null, Pointer, Wild}
-use Rattle.po_memory.specs.Accesses.{Writes, Reads, overwritten}
-use Rattle.po_memory.specs.Blocks.{IsNotNull, IsLive, Spans, IntoOne, OnPointer}
+use Rattle.po_memory.specs.declared.value.Value.TheVariants.{Number, Pointer}
+use Rattle.po_memory.specs.Blocks.{IsNotNull, IsLive, IntoOne, OnPointer}
 use Rattle.po_memory.specs.Bytes as stored_bytes
 use Rattle.po_memory.specs.Bytes.{IsAccess, LiesIn, zeros}
 use Rattle.po_memory.specs.Holding.{Holds}
 use Rattle.po_memory.specs.Passing.{HasValue}
-use Rattle.po_memory.specs.Values.{moved, register_value, EachPointer}
+use Rattle.po_memory.specs.Values.{moved, EachPointer}
 use Rattle.po_meaning.specs.Operands.{as_value, block_held, slot_block, at_node, onward, put, without_value, with_block, receive, value_at, pointer_value, Is, ArePassed}
 use Rattle.po_meaning.specs.Pointers.{compares}
 use Rattle.po_meaning.specs.States.{State, StandsAt, start_frame}
-use Rattle.po_meaning.specs.Local.{Tests, Converts, AreAway, IsDistance, IsNew}
-use Rattle.po_meaning.specs.Steps.{Returned, KillsAll}
+use Rattle.po_meaning.specs.Local.{Tests, AreAway, IsDistance}
+use Rattle.po_meaning.specs.Steps.{Returned}
 use Rattle.po_meaning.specs.Checks.{AllHold}
 use Rattle.po_meaning.specs.Belongs.{HasSome, Calls, Wait, Belongs}
-use Rattle.po_meaning.specs.Following.{Follows, CallsLibrary, StatesFollow}
+use Rattle.po_meaning.specs.Following.{Follows, IsPassedTo, StatesFollow, LibraryCallsPass}
 use Rattle.po_meaning.proofs.Arithmetic.{conv_some, binary_some, unary_some}
-use Rattle.po_meaning.proofs.Calls.{value_lies}
-use Rattle.po_meaning.proofs.Choices.{wrapped_some, InOne, in_one, IsOrder, compare_some, Located, located, read_some, write_some, value_read, stored_some, copied_some, kill_some, kills_some}
-use Rattle.po_meaning.proofs.Entry.{LieIn, lie_in}
-use Rattle.po_meaning.proofs.Frames.{told_at}
+use Rattle.po_meaning.proofs.Choices.{wrapped_some, InOne, in_one, IsOrder, compare_some, located, read_some, write_some, value_read, stored_some, copied_some, kill_some, kills_some}
+use Rattle.po_meaning.proofs.Entry.{lie_in}
 use Rattle.po_meaning.proofs.Having.{In, register_set, operand_value, operand_number, operand_integer, operand_pointer}
 use Rattle.po_meaning.proofs.Held.{Each, asks_hold, on_pointer, on_number, spanned}
 use Rattle.po_meaning.proofs.Parts.{read_size}
-use Rattle.po_meaning.proofs.Places.{at_place, same_item, item_at, All-head, All-tail}
+use Rattle.po_meaning.proofs.Places.{at_place, item_at, All-head, All-tail}
 use Rattle.po_meaning.proofs.Plain.{typed_as, fits_before, register_lies}
 use Rattle.po_meaning.proofs.Slots.{entered_block}
 use Rattle.po_meaning.proofs.States.{state}
@@ -388,17 +380,17 @@ module _ (required : Required) (library : List Signature) (p : Project) (r : Rep
         register_set required p r f i s stands held before n reg.0 reg.1 among
     untyped_value (operand.Num n) among = (Number n, inl refl)
 
-    pub passed_some : (types : List Ty) (args : List Opnd) → LieIn f.graph types args → ((a : Opnd) → In args a → In (operands i) a) → (values : List Value) × ArePassed s.top types args values
-    passed_some [] [] lie among = ([], tt)
-    passed_some [] (a ∷ args) lie among =
+    pub passed_some : (more : Bool) (types : List Ty) (args : List Opnd) → ((t : Ty) (rest : List Ty) → types ≡ t ∷ rest → Passes f.graph more types args) → ((a : Opnd) → In args a → In (operands i) a) → (values : List Value) × ArePassed s.top types args values
+    passed_some more [] [] lie among = ([], tt)
+    passed_some more [] (a ∷ args) lie among =
         let first = untyped_value a (among a (inl refl)) in
-        let rest = passed_some [] args (λ t others same. absurd (cc)) (λ x is. among x (inr is)) in
+        let rest = passed_some more [] args (λ t others same. absurd (cc)) (λ x is. among x (inr is)) in
         (first.0 ∷ rest.0, (first.1, rest.1))
-    passed_some (t ∷ types) [] lie among = absurd (lie t types refl)
-    passed_some (t ∷ types) (a ∷ args) lie among =
-        let lies : Lies f.graph t a × Passes f.graph false types args = lie t types refl in
+    passed_some more (t ∷ types) [] lie among = absurd (lie t types refl)
+    passed_some more (t ∷ types) (a ∷ args) lie among =
+        let lies : Lies f.graph t a × Passes f.graph more types args = lie t types refl in
         let first = value_of i stands t a (among a (inl refl)) lies.0 in
-        let rest = passed_some types args (λ k others same. lies.1) (λ x is. among x (inr is)) in
+        let rest = passed_some more types args (λ k others same. lies.1) (λ x is. among x (inr is)) in
         (first.0 ∷ rest.0, (first.1, rest.1))
 
   callee_there : (o : Option Function) (P : Function → Type 0) → MatchOption o ⊥ P → (callee : Function) × (o ≡ Some callee)
@@ -409,8 +401,19 @@ module _ (required : Required) (library : List Signature) (p : Project) (r : Rep
   call_follows to n args strings stands =
       let i : Instr = Call to (Fun n) args strings in
       let callee = callee_there (slice_get p.functions n.0) _ (fits i stands).callees_fit in
-      let values = passed_some i stands (parameter_types callee.0) args (lie_in library p f to n args strings s.top callee.0 whole stands callee.1) (λ a among. among) in
+      let values = passed_some i stands false (parameter_types callee.0) args (lie_in library p f to n args strings s.top callee.0 whole stands callee.1) (λ a among. among) in
       inl (state (start_frame n callee.0 values.0) (s.top ∷ s.rest) s.memory, record { callee = callee.0; is_there = callee.1; values = values.0; passed = values.1; top = refl; rest = refl; memory = refl })
+
+  signature_there : (o : Option Signature) (P : Signature → Type 0) → MatchOption o ⊥ P → (signature : Signature) × (o ≡ Some signature) × P signature
+  signature_there None P is = absurd is
+  signature_there (Some signature) P is = (signature, refl, is)
+
+  pub library_passes : (to : Option RegNo) (lib : LibNo) (args : List Opnd) (strings : List ℕ) → StandsAt p s.top f (Lib to lib args strings) → IsPassedTo library s.top lib args
+  library_passes to lib args strings stands =
+      let i : Instr = Lib to lib args strings in
+      let found = signature_there (slice_get library lib.0) (λ (x : Signature). LibraryCallFits f.graph to args strings x) (fits i stands).callees_fit in
+      let values = passed_some i stands found.0.variadic found.0.params args (λ t rest same. found.2.passes) (λ a among. among) in
+      record { signature = found.0; is_there = found.1; values = values.0; passed = values.1 }
 
   returned_some : (value : Option Opnd) → StandsAt p s.top f (Return value) → Gives f value → (result : Option Value) × Returned f s.top value result
   returned_some None stands gives = (None, refl)
@@ -428,22 +431,25 @@ module _ (required : Required) (library : List Signature) (p : Project) (r : Rep
           let waits : Calls p caller s.top.function = (subst (Wait p s.top.function) waiting before.waiting).0 in
           let result = returned_some value stands (fits (Return value) stands).return_fits in
           let after = kills_some s.top.slots s.memory slot_there in
-          inl (state (receive waits.1 result.0 caller) below after.0, record {
-            caller = caller;
-            below = below;
-            waiting = waiting;
-            calling = waits.0;
-            to = waits.1;
-            callee = Fun s.top.function;
-            args = waits.2;
-            strings = waits.3;
-            calls = waits.4;
-            result = result.0;
-            is_result = result.1;
-            top = refl;
-            rest = refl;
-            memory = after.1;
-          })
+          inl (
+            state (receive waits.1 result.0 caller) below after.0,
+            record {
+              caller = caller;
+              below = below;
+              waiting = waiting;
+              calling = waits.0;
+              to = waits.1;
+              callee = Fun s.top.function;
+              args = waits.2;
+              strings = waits.3;
+              calls = waits.4;
+              result = result.0;
+              is_result = result.1;
+              top = refl;
+              rest = refl;
+              memory = after.1;
+            },
+          )
 
 pub states_follow : StatesFollow
 states_follow required library p r f (Const to value) s whole stands held before none = const_follows required library p r f s whole held before to value stands
@@ -471,3 +477,6 @@ states_follow required library p r f (If o ty a b one other) s whole stands held
 states_follow required library p r f (Jump next) s whole stands held before none = inl (state (at_node next s.top) s.rest s.memory, ((refl, refl), refl))
 states_follow required library p r f (Return value) s whole stands held before none = return_follows required library p r f s whole held before value stands
 states_follow required library p r f (Never reason) s whole stands held before none = absurd (asks_hold required p r s f (Never reason) stands held).0
+
+pub library_calls_pass : LibraryCallsPass
+library_calls_pass required library p r f to lib args strings s whole stands held before = library_passes required library p r f s whole held before to lib args strings stands

@@ -1,5 +1,5 @@
 -- The operands of an instruction have values where all obligations at its node hold.
-use Rattle.std.specs.Prelude.{ℕ, zero, suc, ◌+◌, ◌≡◌, ◌≢◌, ◌<◌, ◌⊎◌, ◌==◌, ◌&&◌, true, false, not, cond, Bool, ℤ, pos, List, [], ◌∷◌, ◌++◌, Contains, Option, Some, None, MatchOption, map, slice_get}
+use Rattle.std.specs.Prelude.{ℕ, suc, ◌≡◌, ◌⊎◌, ◌==◌, ◌&&◌, true, false, not, cond, Bool, ℤ, List, [], ◌∷◌, ◌++◌, Contains, Option, Some, None, MatchOption, map, slice_get}
 use Rattle.std.specs.List.{filter, flat_map}
 use Rattle.std.proofs.Common.{refl, sym, ap, ◌∙◌, subst, arith, inl, inr}
 use Rattle.std.proofs.lemmas.Bool.{eqb-true}

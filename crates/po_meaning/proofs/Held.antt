@@ -76,8 +76,8 @@ gen_hold required p r s f i stands held = each_of (Holds s.top s.memory) (gen_in
     at : (j : ℕ) (q : Pred) → slice_get (gen_instr required f.graph i) j ≡ Some q → Holds s.top s.memory q
     at j q here =
         let found =
-            asked_at s.top.function s.top.node 0 (gen required p s.top.function s.top.node) j q (supports p r s.top.function s.top.node)
-            (subst (λ (qs : List Pred). slice_get qs j ≡ Some q) (sym (gen_is required p s.top f i stands)) here) in
+        asked_at s.top.function s.top.node 0 (gen required p s.top.function s.top.node) j q (supports p r s.top.function s.top.node)
+        (subst (λ (qs : List Pred). slice_get qs j ≡ Some q) (sym (gen_is required p s.top f i stands)) here) in
         held j (found.0, q) found.1
 
 pub asks_hold : (required : Required) (p : Project) (r : Report Pred Rule) (s : State) (f : Function) (i : Instr) → StandsAt p s.top f i → AllHold required p r s → Each (Holds s.top s.memory) (asks required f.graph i)

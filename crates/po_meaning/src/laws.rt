@@ -1,5 +1,5 @@
 ghost use Rattle.po_meaning.specs.Laws.{OneIsFirst, NoneIsFirst, EntryKeepsHolds, PlainStepsStay};
-ghost use Rattle.po_meaning.specs.Following.{OneOrAll, StatesFollow};
+ghost use Rattle.po_meaning.specs.Following.{LibraryCallsPass, OneOrAll, StatesFollow};
 ghost use Rattle.po_meaning.specs.Staying.{LibraryStepsStay, StepsStay};
 
 use po_interval::{members_of_results_are_of_type, results_are_allowed};
@@ -57,4 +57,9 @@ pub fn one_or_all()
 /// the run ends. It does nothing.
 pub fn states_follow()
     ensures { StatesFollow }
+{}
+
+/// At a call of a library function in such a state the operands have values, at the types of its parameters. It does nothing.
+pub fn library_calls_pass()
+    ensures { LibraryCallsPass }
 {}
