@@ -5,3 +5,13 @@ mod Frames
 mod States
 mod Results
 mod Plain
+mod Held
+mod Memory
+mod Parts
+mod Accesses
+mod Slots
+mod Calls
+mod ResultTypes
+mod Returns
+mod LibraryCalls
+mod Steps

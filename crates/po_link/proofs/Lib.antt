@@ -1,0 +1,9 @@
+mod Refused
+mod Named
+mod Places
+mod Noted
+mod OneMore
+mod Owned
+mod Joining
+mod Carried
+mod OneLinked

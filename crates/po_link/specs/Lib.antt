@@ -1,0 +1,7 @@
+pub mod Linking
+pub mod Names
+pub mod Joined
+pub mod Noted
+pub mod Objects
+pub mod Scoped
+pub mod Parted
