@@ -15,14 +15,14 @@ use Rattle.po_link.specs.declared.join.Parts.{Parts}
 use Rattle.po_link.specs.declared.scope.Scope.{Scope}
 use Rattle.po_link.specs.declared.seen.Seen.{Seen}
 use Rattle.po_ir.specs.General.{each_from}
-use Rattle.po_link.specs.Names.{named}
+use Rattle.po_symbols.specs.Names.{named}
 use Rattle.po_link.specs.Joined.{file_name, functions_of, globals_of, texts_of, opaque_of, opaque_in, is_named, is_declared, is_lib, seen_function, naming_of, object_number, global_of, joined_functions}
 use Rattle.po_link.specs.Noted.{AreSeen}
 use Rattle.po_link.specs.Objects.{number_at}
 use Rattle.po_link.specs.Parted.{AreParts}
 use Rattle.po_link.specs.Scoped.{flat, seen_by, scoped_function, scoped_lib, IsScope}
 use Rattle.po_ir.proofs.General.{each_from-take}
-use Rattle.po_link.proofs.Places.{bool_cases, flat_map-more}
+use Rattle.po_symbols.proofs.Places.{bool_cases, flat_map-more}
 
 pub parts_more : (units : List FileUnit) (file : ℕ) (u : FileUnit) (before after : Parts) → slice_get units file ≡ Some u →
     after.files ≡ before.files ++ u.name ∷ [] → after.opaque ≡ before.opaque ++ flat_map opaque_of u.pieces → after.functions ≡ before.functions ++ joined_functions units file u →

@@ -1,9 +1,8 @@
-mod Refused
-mod Named
-mod Places
 mod Noted
 mod OneMore
 mod Owned
 mod Joining
 mod Carried
 mod OneLinked
+mod OneFunction
+mod OneOutcome

@@ -10,10 +10,10 @@ use Rattle.std.proofs.lemmas.List.{length_push, length-take-le, take_more}
 use Rattle.po_ir.specs.declared.project.Function.{Function}
 use Rattle.po_link.specs.declared.seen.Seen.{Seen}
 use Rattle.po_ir.specs.declared.unit.LibUse.{LibUse}
-use Rattle.po_link.specs.Names.{named}
+use Rattle.po_symbols.specs.Names.{named}
 use Rattle.po_link.specs.Joined.{is_seen, is_named, is_lib}
 use Rattle.po_link.specs.Noted.{AreSeen}
-use Rattle.po_link.proofs.Places.{position-push, find-push, mapped}
+use Rattle.po_symbols.proofs.Places.{position-push, find-push, mapped}
 
 pub seen_more : (before : List Function) (f : Function) (old : Seen) (numbers : BTreeMap (List ℕ) ℕ) (key : List ℕ) (count : ℕ) → f.local ≡ false → key ≡ f.name → count ≡ old.count + 1 →
     ((q : List ℕ) → named numbers q ≡ option_or (named old.numbers q) (cond (is_eq (slice_cmp nat_cmp key q)) (Some old.count) None)) →

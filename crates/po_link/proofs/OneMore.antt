@@ -8,11 +8,11 @@ use Rattle.std.proofs.lemmas.Option.{slice_get_within, get_or_from_slice_get, sa
 use Rattle.po_ir.specs.declared.project.Global.{Global}
 use Rattle.po_link.specs.declared.objects.Objects.{Objects}
 use Rattle.po_ir.specs.General.{each_from}
-use Rattle.po_link.specs.Names.{named}
+use Rattle.po_symbols.specs.Names.{named}
 use Rattle.po_link.specs.Joined.{is_shared, is_new, new_at, count_new, first_place, object_number, object_of, object_at, joined}
 use Rattle.po_link.specs.Objects.{AreObjects, AddsLocal, AddsFirst, AddsKnown, number_at}
 use Rattle.po_ir.proofs.General.{each_from-take}
-use Rattle.po_link.proofs.Places.{bool_cases, option_cases, position-push, position-front, any_place, same_bytes, bytes_same, and_right, mapped}
+use Rattle.po_symbols.proofs.Places.{bool_cases, option_cases, position-push, position-front, any_place, same_bytes, bytes_same, and_right, mapped}
 
 -- what holds of one item more of each list
 added : {Y : Type 0} (f : ℕ → Global → List Y) (all : List Global) (place : ℕ) (g : Global) (ys before after : List Y) → slice_get all place ≡ Some g →

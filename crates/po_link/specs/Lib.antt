@@ -1,7 +1,6 @@
-pub mod Linking
-pub mod Names
 pub mod Joined
 pub mod Noted
 pub mod Objects
 pub mod Scoped
 pub mod Parted
+pub mod Outcome

@@ -6,7 +6,7 @@ use Rattle.po_ir.specs.declared.project.Effects.{Effects}
 use Rattle.po_ir.specs.declared.project.Function.{Function}
 use Rattle.po_link.specs.declared.seen.Seen.{Seen}
 use Rattle.po_ir.specs.declared.unit.LibUse.{LibUse}
-use Rattle.po_link.specs.Names.{named}
+use Rattle.po_symbols.specs.Names.{named}
 use Rattle.po_link.specs.Joined.{is_seen, is_lib}
 
 -- the numbers of the functions that other files see

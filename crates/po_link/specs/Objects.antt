@@ -5,7 +5,7 @@ use Rattle.std.specs.BTreeMap.{BTreeMap}
 use Rattle.po_ir.specs.declared.project.Global.{Global}
 use Rattle.po_link.specs.declared.objects.Objects.{Objects}
 use Rattle.po_ir.specs.General.{each_from}
-use Rattle.po_link.specs.Names.{named, listed}
+use Rattle.po_symbols.specs.Names.{named, listed}
 use Rattle.po_link.specs.Joined.{is_shared, count_new, object_number, object_at}
 
 -- the globals under each name

@@ -7,7 +7,7 @@ use Rattle.po_link.specs.declared.seen.Seen.{Seen}
 use Rattle.po_link.specs.declared.scope.Scope.{Scope}
 use Rattle.po_ir.specs.declared.unit.LibUse.{LibUse}
 use Rattle.po_ir.specs.declared.unit.Unit.{Unit as FileUnit}
-use Rattle.po_link.specs.Names.{named}
+use Rattle.po_symbols.specs.Names.{named}
 use Rattle.po_link.specs.Joined.{Naming, is_named, is_declared, is_lib}
 
 abbrev pub flat : {X : Type 0} → Option (Option X) → Option X

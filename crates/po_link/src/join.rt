@@ -130,7 +130,11 @@ fn join_parts(alloc: Global, units: List<Unit>, target: Target) -> Result<Projec
 
 /// The project of these files, where nothing keeps them from being joined: where no external name has two bodies or types that
 /// differ. Memory is the one other answer. In time linear in the sizes of the files but for the logarithm of the number of names.
-pub fn join_files(alloc: Global, units: List<Unit>, target: Target) -> Result<Project, Memory>
+pub(crate) fn join_files(
+    alloc: Global,
+    units: List<Unit>,
+    target: Target,
+) -> Result<Project, Memory>
     ensures { IfOk result (IsLinked units target) }
 {
     let library = library(alloc, units.as_slice())?;

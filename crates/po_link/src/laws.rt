@@ -1,10 +1,5 @@
 ghost use Rattle.po_link.specs.Joined.{OneProject, StandsByFile};
-ghost use Rattle.po_link.specs.Linking.{OneRefusal};
-
-/// Files that can't be joined are refused for one name, one pair of files and one of the two causes.
-pub fn refusal_is_one()
-    ensures { OneRefusal }
-{}
+ghost use Rattle.po_link.specs.Outcome.{OneFunctionEach, OneOutcome};
 
 /// Files are joined to one project at most.
 pub fn joined_to_one()
@@ -14,4 +9,14 @@ pub fn joined_to_one()
 /// The functions of a project stand by file, and then by place in the file.
 pub fn functions_stand_by_file()
     ensures { StandsByFile }
+{}
+
+/// The same files have one outcome, but for want of memory.
+pub fn outcome_is_one()
+    ensures { OneOutcome }
+{}
+
+/// Each external name has one function, where no file shows two functions of one name.
+pub fn name_has_one_function()
+    ensures { OneFunctionEach }
 {}

@@ -1,15 +1,14 @@
-//! Files joined to one project, where nothing keeps them from it.
+//! Files joined to one project, or why they can't be.
 #![tactic(auto)]
 
 mod join;
 mod laws;
-mod link_fail;
-mod names;
+mod linking;
 mod objects;
 mod rename;
 mod scope;
 mod seen;
 
-pub use join::join_files;
-pub use laws::{functions_stand_by_file, joined_to_one, refusal_is_one};
-pub use link_fail::LinkFail;
+pub use laws::{functions_stand_by_file, joined_to_one, name_has_one_function, outcome_is_one};
+pub use linking::link;
+pub use po_symbols::LinkFail;

@@ -1,13 +1,13 @@
 ghost use Rattle.std.specs.Prelude.{◌≡◌, ◌≢◌, ◌++◌, ◌+◌, ◌∷◌, [], List, Some, cond, find, flat_map, option_copied, slice_get, length, IfOk, OnOk};
 ghost use Rattle.std.specs.List.{list_any};
-ghost use Rattle.po_link.specs.Names.{listed};
+ghost use Rattle.po_symbols.specs.Names.{listed};
 ghost use Rattle.po_link.specs.Joined.{globals_of, has_size as gives_size, defines_size as gives_size_and_value, is_shared, shape_of as shape, joined};
 ghost use Rattle.po_link.specs.Objects.{AreShared, AreObjects, AddsLocal, AddsFirst, AddsKnown};
 ghost use Rattle.po_ir.specs.declared.project.Global.{Global as GlobalOf};
 
-use crate::names::{Named, add_under, note_name};
 use po_base::{List, Memory};
 use po_ir::{CTypeText, Global as Object, Unit, counted};
+use po_symbols::{Named, add_under, note_name};
 use std::alloc::Global;
 use std::collections::BTreeMap;
 

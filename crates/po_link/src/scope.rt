@@ -2,7 +2,7 @@ ghost use Rattle.std.specs.Prelude.{◌≡◌, ◌+◌, ◌++◌, ◌∷◌, [],
 ghost use Rattle.std.specs.Option.{option_or};
 ghost use Rattle.std.specs.Ordering.{nat_cmp};
 ghost use Rattle.std.specs.BTreeMap as tree;
-ghost use Rattle.po_link.specs.Names.{named};
+ghost use Rattle.po_symbols.specs.Names.{named};
 ghost use Rattle.po_link.specs.Joined.{Naming, is_named, is_declared, is_lib, renamed_callee};
 ghost use Rattle.std.specs.List.{list_any};
 ghost use Rattle.po_base.specs.declared.numbers.FunNo.{FunNo as FunNoOf};
@@ -11,10 +11,10 @@ ghost use Rattle.po_ir.specs.declared.unit.LibUse.{LibUse as LibUseOf};
 ghost use Rattle.po_ir.specs.declared.instr.Callee.TheVariants.{Extern};
 ghost use Rattle.po_link.specs.Scoped.{flat, AreScoped, seen_by, scoped_function, scoped_lib, IsScope};
 
-use crate::names::{Named, note, note_name};
 use crate::seen::{Seen, following};
 use po_base::{FunNo, GlobalNo, LibNo, Memory, StrNo, Text};
 use po_ir::{CTypeText, Callee, Function, LibUse, Unit};
+use po_symbols::{Named, note, note_name};
 use std::alloc::Global;
 use std::collections::BTreeMap;
 

@@ -4,9 +4,9 @@ ghost use Rattle.po_link.specs.Noted.{AreSeen, AreNoted};
 ghost use Rattle.po_ir.specs.declared.project.Function.{Function as FunctionOf};
 ghost use Rattle.po_ir.specs.declared.unit.LibUse.{LibUse as LibUseOf};
 
-use crate::names::{Named, note};
 use po_base::Memory;
 use po_ir::{Effects, Function, LibUse, Unit};
+use po_symbols::{Named, note};
 use std::alloc::Global;
 use std::collections::BTreeMap;
 

@@ -1,6 +1,6 @@
 use Rattle.std.proofs.Common.{◌≡◌, ◌+◌, ℕ, List, take}
 use Rattle.std.specs.Prelude.{option_map, position}
-use Rattle.po_link.specs.Names.{named}
+use Rattle.po_symbols.specs.Names.{named}
 use Rattle.po_link.specs.Joined.{is_named}
 use Rattle.po_link.proofs.scope.note_own.Given as goal
 
