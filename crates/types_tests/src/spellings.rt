@@ -1,11 +1,9 @@
-ghost use Rattle.std.specs.Prelude.{◌≡◌, ◌∷◌, [], codes, IfOk};
-ghost use Rattle.po_types.specs.declared.ctype.CType.TheVariants as c;
 ghost use Rattle.po_types.specs.Nesting.{IsWellFounded};
 
 use crate::types::{arrays, stars};
 use po_arith::{IntType, Target};
-use po_base::{List, Memory, Text};
-use po_types::{CType, Env, Shared, Table, spell_type};
+use po_base::{List, Memory};
+use po_types::{CType, Env, Shared, spell_type};
 use std::alloc::Global;
 use std::test::Fail;
 
@@ -61,37 +59,12 @@ fn function(alloc: Global, second: CType, more: bool) -> Result<CType, Memory> {
     Ok(CType::Fun(result, params, more))
 }
 
-/// The environment of `struct Q`, which is struct 0, and of a struct without a tag that has a pointer to it as its member.
-fn structs(alloc: Global) -> Result<Env, Memory>
-    ensures { IfOk result (λ env. IsWellFounded env) }
-{
-    let mut env = Env::new(alloc, Target::L64);
-    env.names.push(Some(Text::new(alloc, b"Q")?))?;
-    env.names.push(None)?;
-    env.members.push(Table::new(alloc))?;
-    env.members.push(member(alloc)?)?;
-    Ok(env)
-}
-
-/// A pointer to struct 0 as a member.
-fn member(alloc: Global) -> Result<Table<CType>, Memory>
-    ensures { IfOk result (λ members. members ≡ (codes "next", c.Ptr (c.Struct 0)) ∷ []) }
-{
-    let mut members = Table::new(alloc);
-    let name = Text::new(alloc, b"next")?;
-    let next = Shared::new(alloc, CType::Struct(0))?;
-    members.add(name, CType::Ptr(next))?;
-    Ok(members)
-}
-
 #[test]
-fn structs_are_spelled_by_their_tags_or_members(rt: HostRuntime) -> Result<(), Fail> {
-    let env = structs(rt.alloc())?;
-    assert!(rt; spells(rt.alloc(), &env, &CType::Struct(0), b"struct Q")?);
-    assert!(rt; spells(rt.alloc(), &env, &CType::Struct(1), b"struct{*struct Q}")?);
-    let plain = function(rt.alloc(), CType::Struct(0), false)?;
-    assert!(rt; spells(rt.alloc(), &env, &plain, b"(*i32,struct Q)i32")?);
-    let more = function(rt.alloc(), stars(rt.alloc(), 0)?, true)?;
-    assert!(rt; spells(rt.alloc(), &env, &more, b"(*i32,i32,...)i32")?);
+fn functions_are_spelled_with_their_parameters(rt: HostRuntime) -> Result<(), Fail> {
+    let env = Env::new(rt.alloc(), Target::L64);
+    let plain = function(rt.alloc(), CType::Int(IntType::INT), false)?;
+    assert!(rt; spells(rt.alloc(), &env, &plain, b"(*i32,i32)i32")?);
+    let more = function(rt.alloc(), stars(rt.alloc(), 2)?, true)?;
+    assert!(rt; spells(rt.alloc(), &env, &more, b"(*i32,**i32,...)i32")?);
     Ok(())
 }
