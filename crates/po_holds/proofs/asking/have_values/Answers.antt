@@ -1,0 +1,30 @@
+use Rattle.std.proofs.Common.{rules, ◌≡◌, ◌^◌, ◌≤◌, ◌<◌, ◌-◌, ◌+◌, ◌*◌, ◌↔◌, ℕ, arith, refl, sym, ap, ◌∙◌, subst, length, inl, inr, FitsSigned, to_z-of_z}
+use Rattle.std.specs.Prelude.{ℤ, pos, negsuc, neg_ℤ, ◌+ℤ◌, ◌-ℤ◌, ◌*ℤ◌, ◌≤ℤ◌, ◌<ℤ◌, ◌⊎◌, Bool, true, false, not, IsTrue, Some, None, slice_get}
+use Rattle.std.specs.Int.{w128}
+use Rattle.std.specs.Option.{option_copied}
+use Rattle.std.proofs.lemmas.Int.{ints, by_lt_z}
+use Rattle.po_memory.specs.Blocks.{IsOfWidth, half}
+use Rattle.po_holds.specs.Choosing.{IsOneOf, AreSome, least, greatest}
+use Rattle.po_holds.proofs.Telling.{not_tells, first_fails, second_tells, first_met, then_tells}
+use Rattle.po_holds.proofs.Sums.{at_least, tells_not}
+use Rattle.std.proofs.lemmas.Option.{slice_get-get_or}
+use Rattle.std.proofs.Common.{get_or}
+use Rattle.po_memory.specs.declared.value.Byte.TheVariants as byte
+use Rattle.po_holds.specs.Asking.{place_of}
+use Rattle.po_holds.proofs.Asked.{one_more_value, all_values}
+use Rattle.po_holds.proofs.asking.have_values.Goals as goal
+
+pub loop-i-preserved : goal.loop-i-preserved
+loop-i-preserved c =
+    let there = slice_get-get_or c.args.bytes.now c.loop-i.i byte.Blank (search rules) in
+    one_more_value c.args.bytes.now (place_of c.args.from.now) (place_of c.args.to.now) c.loop-i.i (get_or c.args.bytes.now c.loop-i.i byte.Blank) there (λ hole. let met = c.is_hole.ensures.1 hole in let none : c.is_hole.result ≡ false = search rules in absurd (cc)) c.loop-i.invariant
+
+pub returns-then-is_hole : goal.returns-then-is_hole
+returns-then-is_hole c =
+    let there = slice_get-get_or c.args.bytes.now c.loop-i.i byte.Blank (search rules) in
+    let hole = c.is_hole.ensures.0 (search rules) in
+    (λ h. absurd (cc), λ h. absurd (h c.loop-i.i hole.1 hole.2 (there ∙ ap Some hole.0)))
+
+pub returns : goal.returns
+returns c =
+    (λ h. all_values c.args.bytes.now (place_of c.args.from.now) (place_of c.args.to.now) c.loop-i.invariant, λ h. refl)

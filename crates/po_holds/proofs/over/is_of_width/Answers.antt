@@ -1,0 +1,54 @@
+use Rattle.std.proofs.Common.{rules, ◌≡◌, ◌^◌, ◌≤◌, ◌<◌, ◌-◌, ◌+◌, ◌*◌, ◌↔◌, ℕ, arith, refl, sym, ap, ◌∙◌, subst, length, inl, inr, FitsSigned, to_z-of_z}
+use Rattle.std.specs.Prelude.{ℤ, pos, negsuc, neg_ℤ, ◌+ℤ◌, ◌-ℤ◌, ◌*ℤ◌, ◌≤ℤ◌, ◌<ℤ◌, ◌⊎◌, Bool, not, IsTrue, Some, None, slice_get}
+use Rattle.std.specs.Int.{w128}
+use Rattle.std.specs.Option.{option_copied}
+use Rattle.std.proofs.lemmas.Int.{ints, by_lt_z}
+use Rattle.po_memory.specs.Blocks.{IsOfWidth, half}
+use Rattle.po_holds.specs.Choosing.{IsOneOf, AreSome, least, greatest}
+use Rattle.po_holds.proofs.Telling.{not_tells, first_fails, second_tells, first_met, then_tells}
+use Rattle.po_holds.proofs.Sums.{at_least, tells_not}
+use Rattle.po_holds.specs.Over.{sum_of}
+use Rattle.po_holds.proofs.Widths.{width_low, width_high}
+use Rattle.po_holds.proofs.over.is_of_width.Goals as goal
+
+pub returns-then-is_negative : goal.returns-then-is_negative
+returns-then-is_negative c =
+    let fits_0 : FitsSigned w128 c.args.sum.now.first.0 = search rules in
+    let fits_1 : FitsSigned w128 c.args.sum.now.first.1 = search rules in
+    let fits_2 : FitsSigned w128 c.args.sum.now.second.0 = search rules in
+    let fits_3 : FitsSigned w128 c.args.sum.now.second.1 = search rules in
+    let fits_4 : FitsSigned w128 c.args.sum.now.third.0 = search rules in
+    let fits_5 : FitsSigned w128 c.args.sum.now.third.1 = search rules in
+    let fits_6 : FitsSigned w128 c.args.sum.now.fourth.0 = search rules in
+    let fits_7 : FitsSigned w128 c.args.sum.now.fourth.1 = search rules in
+    let fits_p0 : FitsSigned w128 c.power_of-half.result.first = search rules in
+    let fits_p1 : FitsSigned w128 c.power_of-half.result.more = search rules in
+    let fits_p2 : FitsSigned w128 c.power_of-half.result.second = search rules in
+    let power = c.power_of-half.ensures in
+    let fits_neg : FitsSigned w128 (pos 0 +ℤ neg_ℤ c.power_of-half.result.second) = omega (arith, ints, power.least, power.greatest) in
+    let neg_is : pos 0 +ℤ neg_ℤ c.power_of-half.result.second ≡ neg_ℤ c.power_of-half.result.second = omega (arith, ints) in
+    let low_sum : IsTrue c.is_negative.result ↔ ((c.args.sum.now.first.0 *ℤ c.args.sum.now.first.1 +ℤ (c.args.sum.now.second.0 *ℤ c.args.sum.now.second.1 +ℤ (c.args.sum.now.third.0 *ℤ c.args.sum.now.third.1 +ℤ (c.args.sum.now.fourth.0 *ℤ c.args.sum.now.fourth.1 +ℤ (c.power_of-half.result.first *ℤ neg_ℤ c.power_of-half.result.second +ℤ (c.power_of-half.result.more *ℤ neg_ℤ c.power_of-half.result.second +ℤ pos 0)))))) <ℤ pos 0) = simp (to_z-of_z, neg_is) at c.is_negative.ensures in
+    let low : IsTrue (not c.is_negative.result) ↔ (neg_ℤ (pos (half c.args.bits)) ≤ℤ sum_of c.args.sum.now) = width_low c.args.bits c.power_of-half.result (c.args.sum.now.first.0) (c.args.sum.now.first.1) (c.args.sum.now.second.0) (c.args.sum.now.second.1) (c.args.sum.now.third.0) (c.args.sum.now.third.1) (c.args.sum.now.fourth.0) (c.args.sum.now.fourth.1) c.is_negative.result power low_sum in
+    first_met c.is_negative.result low (λ x. x, λ x. x) c.if-is_negative.true
+
+pub returns : goal.returns
+returns c =
+    let fits_0 : FitsSigned w128 c.args.sum.now.first.0 = search rules in
+    let fits_1 : FitsSigned w128 c.args.sum.now.first.1 = search rules in
+    let fits_2 : FitsSigned w128 c.args.sum.now.second.0 = search rules in
+    let fits_3 : FitsSigned w128 c.args.sum.now.second.1 = search rules in
+    let fits_4 : FitsSigned w128 c.args.sum.now.third.0 = search rules in
+    let fits_5 : FitsSigned w128 c.args.sum.now.third.1 = search rules in
+    let fits_6 : FitsSigned w128 c.args.sum.now.fourth.0 = search rules in
+    let fits_7 : FitsSigned w128 c.args.sum.now.fourth.1 = search rules in
+    let fits_p0 : FitsSigned w128 c.power_of-half.result.first = search rules in
+    let fits_p1 : FitsSigned w128 c.power_of-half.result.more = search rules in
+    let fits_p2 : FitsSigned w128 c.power_of-half.result.second = search rules in
+    let power = c.power_of-half.ensures in
+    let fits_neg : FitsSigned w128 (pos 0 +ℤ neg_ℤ c.power_of-half.result.second) = omega (arith, ints, power.least, power.greatest) in
+    let neg_is : pos 0 +ℤ neg_ℤ c.power_of-half.result.second ≡ neg_ℤ c.power_of-half.result.second = omega (arith, ints) in
+    let low_sum : IsTrue c.is_negative.result ↔ ((c.args.sum.now.first.0 *ℤ c.args.sum.now.first.1 +ℤ (c.args.sum.now.second.0 *ℤ c.args.sum.now.second.1 +ℤ (c.args.sum.now.third.0 *ℤ c.args.sum.now.third.1 +ℤ (c.args.sum.now.fourth.0 *ℤ c.args.sum.now.fourth.1 +ℤ (c.power_of-half.result.first *ℤ neg_ℤ c.power_of-half.result.second +ℤ (c.power_of-half.result.more *ℤ neg_ℤ c.power_of-half.result.second +ℤ pos 0)))))) <ℤ pos 0) = simp (to_z-of_z, neg_is) at c.is_negative.ensures in
+    let low : IsTrue (not c.is_negative.result) ↔ (neg_ℤ (pos (half c.args.bits)) ≤ℤ sum_of c.args.sum.now) = width_low c.args.bits c.power_of-half.result (c.args.sum.now.first.0) (c.args.sum.now.first.1) (c.args.sum.now.second.0) (c.args.sum.now.second.1) (c.args.sum.now.third.0) (c.args.sum.now.third.1) (c.args.sum.now.fourth.0) (c.args.sum.now.fourth.1) c.is_negative.result power low_sum in
+    let high_sum : IsTrue c.is_negative-2.result ↔ ((c.args.sum.now.first.0 *ℤ c.args.sum.now.first.1 +ℤ (c.args.sum.now.second.0 *ℤ c.args.sum.now.second.1 +ℤ (c.args.sum.now.third.0 *ℤ c.args.sum.now.third.1 +ℤ (c.args.sum.now.fourth.0 *ℤ c.args.sum.now.fourth.1 +ℤ (c.power_of-half.result.first *ℤ c.power_of-half.result.second +ℤ (c.power_of-half.result.more *ℤ c.power_of-half.result.second +ℤ pos 0)))))) <ℤ pos 0) = simp (to_z-of_z, neg_is) at c.is_negative-2.ensures in
+    let high : IsTrue c.is_negative-2.result ↔ (sum_of c.args.sum.now <ℤ pos (half c.args.bits)) = width_high c.args.bits c.power_of-half.result (c.args.sum.now.first.0) (c.args.sum.now.first.1) (c.args.sum.now.second.0) (c.args.sum.now.second.1) (c.args.sum.now.third.0) (c.args.sum.now.third.1) (c.args.sum.now.fourth.0) (c.args.sum.now.fourth.1) c.is_negative-2.result power high_sum in
+    then_tells c.is_negative.result c.is_negative-2.result low high (λ x. x, λ x. x) c.if-is_negative.false

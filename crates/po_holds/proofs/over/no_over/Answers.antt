@@ -1,0 +1,26 @@
+use Rattle.std.proofs.Common.{rules, ◌≡◌, ◌^◌, ◌≤◌, ◌<◌, ◌-◌, ◌+◌, ◌*◌, ◌↔◌, ℕ, arith, refl, sym, ap, ◌∙◌, subst, length, inl, inr, FitsSigned, to_z-of_z}
+use Rattle.std.specs.Prelude.{ℤ, pos, negsuc, neg_ℤ, ◌+ℤ◌, ◌-ℤ◌, ◌*ℤ◌, ◌≤ℤ◌, ◌<ℤ◌, ◌⊎◌, Bool, not, IsTrue, Some, None, slice_get}
+use Rattle.std.specs.Int.{w128}
+use Rattle.std.specs.Option.{option_copied}
+use Rattle.std.proofs.lemmas.Int.{ints, by_lt_z}
+use Rattle.po_memory.specs.Blocks.{IsOfWidth, half}
+use Rattle.po_holds.specs.Choosing.{IsOneOf, AreSome, least, greatest}
+use Rattle.po_holds.proofs.Telling.{not_tells, first_fails, second_tells, first_met, then_tells}
+use Rattle.po_holds.proofs.Sums.{at_least, tells_not}
+use Rattle.po_memory.specs.Values.{EachNumber, EachPointer, EachSecond}
+use Rattle.po_memory.specs.Blocks.{IntoOne, AreApart, HasRoom, Spans, IsFilled, OnPointer, StaysIn}
+use Rattle.po_holds.proofs.Chosen as chosen
+use Rattle.po_holds.proofs.Chosen.{through}
+use Rattle.po_holds.proofs.over.no_over.Goals as goal
+
+pub returns-in-Err-second_of : goal.returns-in-Err-second_of
+returns-in-Err-second_of c =
+    chosen.alike_numbers c.args.f.now c.args.a.now (λ v. EachSecond c.args.f.now c.args.b.now (λ w. StaysIn c.args.op c.args.bits v w)) c.in-Ok.v _ (c.in-Ok.ensures tt) (λ v. chosen.second_settled c.args.f.now (λ w. StaysIn c.args.op c.args.bits v w) c.args.b.now c.in-Err-second_of.answer (c.in-Err-second_of.ensures tt))
+
+pub stays_in-requires-clause-w : goal.stays_in-requires-clause-w
+stays_in-requires-clause-w c =
+    chosen.second_some c.args.f.now c.args.b.now c.in-Ok-second_of.w (c.in-Ok-second_of.ensures tt)
+
+pub returns-in-Ok-second_of : goal.returns-in-Ok-second_of
+returns-in-Ok-second_of c =
+    through c.stays_in.ensures (chosen.two_numbers c.args.f.now c.args.a.now c.args.b.now (λ v w. StaysIn c.args.op c.args.bits v w) c.in-Ok.v c.in-Ok-second_of.w (c.in-Ok.ensures tt) (c.in-Ok-second_of.ensures tt))

@@ -1,0 +1,26 @@
+use Rattle.std.proofs.Common.{rules, ◌≡◌, ◌^◌, ◌≤◌, ◌<◌, ◌-◌, ◌+◌, ◌*◌, ◌↔◌, ℕ, arith, refl, sym, ap, ◌∙◌, subst, length, inl, inr, FitsSigned, to_z-of_z}
+use Rattle.std.specs.Prelude.{ℤ, pos, negsuc, neg_ℤ, ◌+ℤ◌, ◌-ℤ◌, ◌*ℤ◌, ◌≤ℤ◌, ◌<ℤ◌, ◌⊎◌, Bool, not, IsTrue, Some, None, slice_get}
+use Rattle.std.specs.Int.{w128}
+use Rattle.std.specs.Option.{option_copied}
+use Rattle.std.proofs.lemmas.Int.{ints, by_lt_z}
+use Rattle.po_memory.specs.Blocks.{IsOfWidth, half}
+use Rattle.po_holds.specs.Choosing.{IsOneOf, AreSome, least, greatest}
+use Rattle.po_holds.proofs.Telling.{not_tells, first_fails, second_tells, first_met, then_tells}
+use Rattle.po_holds.proofs.Sums.{at_least, tells_not}
+use Rattle.po_memory.specs.Values.{EachNumber, EachPointer, EachSecond}
+use Rattle.po_memory.specs.Blocks.{IntoOne, AreApart, HasRoom, Spans, IsFilled, OnPointer, StaysIn}
+use Rattle.po_holds.proofs.Chosen as chosen
+use Rattle.po_holds.proofs.Chosen.{through}
+use Rattle.po_holds.proofs.pairs.apart.Goals as goal
+
+pub returns-in-Err-pointers_of : goal.returns-in-Err-pointers_of
+returns-in-Err-pointers_of c =
+    chosen.alike_pointers c.args.f.now c.args.p.now (λ v. EachPointer c.args.f.now c.args.q.now (λ w. EachNumber c.args.f.now c.args.n.now (λ z. AreApart z v w))) c.in-Ok.v _ (c.in-Ok.ensures tt) (λ v. chosen.pointer_settled c.args.f.now c.args.q.now (λ w. EachNumber c.args.f.now c.args.n.now (λ z. AreApart z v w)) c.in-Err-pointers_of.answer (c.in-Err-pointers_of.ensures tt))
+
+pub returns-in-Err-numbers_of : goal.returns-in-Err-numbers_of
+returns-in-Err-numbers_of c =
+    chosen.alike_pointers c.args.f.now c.args.p.now (λ v. EachPointer c.args.f.now c.args.q.now (λ w. EachNumber c.args.f.now c.args.n.now (λ z. AreApart z v w))) c.in-Ok.v _ (c.in-Ok.ensures tt) (λ v. chosen.alike_pointers c.args.f.now c.args.q.now (λ w. EachNumber c.args.f.now c.args.n.now (λ z. AreApart z v w)) c.in-Ok-pointers_of.w _ (c.in-Ok-pointers_of.ensures tt) (λ w. chosen.number_settled c.args.f.now c.args.n.now (λ z. AreApart z v w) c.in-Err-numbers_of.answer (c.in-Err-numbers_of.ensures tt)))
+
+pub returns-in-Ok-numbers_of : goal.returns-in-Ok-numbers_of
+returns-in-Ok-numbers_of c =
+    through c.are_apart.ensures (chosen.two_pointers_and_number c.args.f.now c.args.p.now c.args.q.now c.args.n.now (λ v w z. AreApart z v w) c.in-Ok.v c.in-Ok-pointers_of.w c.in-Ok-numbers_of.n (c.in-Ok.ensures tt) (c.in-Ok-pointers_of.ensures tt) (c.in-Ok-numbers_of.ensures tt))

@@ -1,0 +1,24 @@
+use Rattle.std.proofs.Common.{rules, ◌≡◌, ◌^◌, ◌≤◌, ◌<◌, ◌-◌, ◌+◌, ◌*◌, ◌↔◌, ℕ, arith, refl, sym, ap, ◌∙◌, subst, length, inl, inr, FitsSigned, to_z-of_z}
+use Rattle.std.specs.Prelude.{ℤ, pos, negsuc, neg_ℤ, ◌+ℤ◌, ◌-ℤ◌, ◌*ℤ◌, ◌≤ℤ◌, ◌<ℤ◌, ◌⊎◌, Bool, not, IsTrue, Some, None, slice_get}
+use Rattle.std.specs.Int.{w128}
+use Rattle.std.specs.Option.{option_copied}
+use Rattle.std.proofs.lemmas.Int.{ints, by_lt_z}
+use Rattle.po_memory.specs.Blocks.{IsOfWidth, half}
+use Rattle.po_holds.specs.Choosing.{IsOneOf, AreSome, least, greatest}
+use Rattle.po_holds.proofs.Telling.{not_tells, first_fails, second_tells, first_met, then_tells}
+use Rattle.po_holds.proofs.Sums.{at_least, tells_not}
+use Rattle.po_holds.proofs.Chosen.{through}
+use Rattle.po_holds.proofs.Both as both
+use Rattle.po_holds.proofs.pairs.differ.Goals as goal
+
+pub returns-then-reaches_none : goal.returns-then-reaches_none
+returns-then-reaches_none c =
+    (λ h. both.apart_since_none c.args.p.now c.args.q.now c.args.n.now (c.reaches_none.ensures.0 c.if-reaches_none.true), λ h. refl)
+
+pub returns-then-is_after : goal.returns-then-is_after
+returns-then-is_after c =
+    (λ h. both.apart_since_after c.args.p.now c.args.q.now c.args.n.now (c.is_after.ensures.0 c.if-is_after.true), λ h. refl)
+
+pub returns : goal.returns
+returns c =
+    through c.is_after-2.ensures (both.apart_before c.args.p.now c.args.q.now c.args.n.now c.requires.p c.requires.q c.requires.n ((not_tells c.reaches_none.result c.reaches_none.ensures).0 (rw c.if-reaches_none.false refl)) ((not_tells c.is_after.result c.is_after.ensures).0 (rw c.if-is_after.false refl)))
