@@ -52,7 +52,7 @@ high_power n low few =
 pub width_low : (bits : ℕ) (p : Power) (a b c d e f g h : ℤ) (t : Bool) → IsPower (bits - 1) p →
     (IsTrue t ↔ ((a *ℤ b +ℤ (c *ℤ d +ℤ (e *ℤ f +ℤ (g *ℤ h +ℤ (p.first *ℤ neg_ℤ p.second +ℤ (p.more *ℤ neg_ℤ p.second +ℤ pos 0)))))) <ℤ pos 0)) →
     IsTrue (not t) ↔ (neg_ℤ (pos (half bits)) ≤ℤ (a *ℤ b +ℤ (c *ℤ d +ℤ (e *ℤ f +ℤ (g *ℤ h +ℤ pos 0)))))
-width_low bits p a b c d e f g h t is tells = low (a *ℤ b) (c *ℤ d) (e *ℤ f) (g *ℤ h) (p.first *ℤ p.second) (p.more *ℤ p.second) is.value (subst (λ z. IsTrue t ↔ ((a *ℤ b +ℤ (c *ℤ d +ℤ (e *ℤ f +ℤ (g *ℤ h +ℤ (z +ℤ (p.more *ℤ neg_ℤ p.second +ℤ pos 0)))))) <ℤ pos 0)) (times_neg p.first p.second) (subst (λ z. IsTrue t ↔ ((a *ℤ b +ℤ (c *ℤ d +ℤ (e *ℤ f +ℤ (g *ℤ h +ℤ (p.first *ℤ neg_ℤ p.second +ℤ (z +ℤ pos 0)))))) <ℤ pos 0)) (times_neg p.more p.second) tells))
+width_low bits p a b c d e f g h t is tells = low (a *ℤ b) (c *ℤ d) (e *ℤ f) (g *ℤ h) (p.first *ℤ p.second) (p.more *ℤ p.second) is.value (subst (λ z. IsTrue t ↔ ((a *ℤ b +ℤ (c *ℤ d +ℤ (e *ℤ f +ℤ (g *ℤ h +ℤ (z +ℤ (neg_ℤ (p.more *ℤ p.second) +ℤ pos 0)))))) <ℤ pos 0)) (times_neg p.first p.second) (subst (λ z. IsTrue t ↔ ((a *ℤ b +ℤ (c *ℤ d +ℤ (e *ℤ f +ℤ (g *ℤ h +ℤ (p.first *ℤ neg_ℤ p.second +ℤ (z +ℤ pos 0)))))) <ℤ pos 0)) (times_neg p.more p.second) tells))
   where
     low : (k l m n x y : ℤ) → x +ℤ y ≡ minus (bits - 1) → (IsTrue t ↔ ((k +ℤ (l +ℤ (m +ℤ (n +ℤ (neg_ℤ x +ℤ (neg_ℤ y +ℤ pos 0)))))) <ℤ pos 0)) → IsTrue (not t) ↔ (neg_ℤ (pos (half bits)) ≤ℤ (k +ℤ (l +ℤ (m +ℤ (n +ℤ pos 0)))))
     low k l m n x y value sign = let both = tells_not t (k +ℤ (l +ℤ (m +ℤ (n +ℤ (neg_ℤ x +ℤ (neg_ℤ y +ℤ pos 0)))))) sign in (λ h. let up = both.0 h in omega (arith, ints), λ h. both.1 (omega (arith, ints)))
@@ -228,3 +228,6 @@ above_zero r t some up tells = (λ h. (all_miss_zero r some).0 (inr (tells.0 h))
     above : (greatest r <ℤ pos 0) ⊎ (pos 0 <ℤ least r) → pos 0 <ℤ least r
     above (inl below) = absurd (omega (arith, ints))
     above (inr more) = more
+
+pub negated_stay : (bits : ℕ) (v w : Numbers) → AreSome w → EachOne v (λ x. IsOfWidth bits (neg_ℤ x)) ↔ EachStays Neg bits v w
+negated_stay bits v w some = (λ h x y x_in y_in. h x x_in, λ h x x_in. h x (least w) x_in (omega (arith, ints), omega (arith, ints)))

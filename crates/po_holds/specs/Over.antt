@@ -31,4 +31,4 @@ abbrev pub EndsStay : ℕ → ℤ → Numbers → Type 0
 EndsStay bits x w = IsOfWidth bits (x *ℤ (w.base +ℤ w.lo)) × IsOfWidth bits (x *ℤ (w.base +ℤ w.hi))
 
 abbrev pub sum_of : Sum → ℤ
-sum_of s = s.first.0 *ℤ s.first.1 +ℤ (s.second.0 *ℤ s.second.1 +ℤ (s.third.0 *ℤ s.third.1 +ℤ (s.fourth.0 *ℤ s.fourth.1 +ℤ pos 0)))
+sum_of s = s.a *ℤ s.w +ℤ (s.b *ℤ s.x +ℤ (s.c *ℤ s.y +ℤ (s.d *ℤ s.z +ℤ pos 0)))

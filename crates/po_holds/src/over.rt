@@ -10,13 +10,17 @@ use crate::exact::is_negative;
 use po_memory::Frame;
 use po_pred::{Over, Place};
 
-/// A sum of four products.
+/// The sum of `a` times `w`, `b` times `x`, `c` times `y` and `d` times `z`.
 #[derive(Clone, Copy, Debug)]
 struct Sum {
-    first: (i128, i128),
-    second: (i128, i128),
-    third: (i128, i128),
-    fourth: (i128, i128),
+    a: i128,
+    w: i128,
+    b: i128,
+    x: i128,
+    c: i128,
+    y: i128,
+    d: i128,
+    z: i128,
 }
 
 /// Less a power of 2, as the sum of `first` and `more`, each times `second`.
@@ -64,10 +68,10 @@ fn is_of_width(bits: u8, sum: &Sum) -> bool
     ensures { IsTrue result ↔ IsOfWidth bits (sum_of sum.now) }
 {
     let half = power_of(bits.saturating_sub(1));
-    if is_negative(&[sum.first, sum.second, sum.third, sum.fourth, (half.first, -half.second), (half.more, -half.second)]) {
+    if is_negative(&[(sum.a, sum.w), (sum.b, sum.x), (sum.c, sum.y), (sum.d, sum.z), (half.first, -half.second), (half.more, -half.second)]) {
         return false;
     }
-    is_negative(&[sum.first, sum.second, sum.third, sum.fourth, (half.first, half.second), (half.more, half.second)])
+    is_negative(&[(sum.a, sum.w), (sum.b, sum.x), (sum.c, sum.y), (sum.d, sum.z), (half.first, half.second), (half.more, half.second)])
 }
 
 fn sums_stay(bits: u8, v: &Numbers, w: &Numbers) -> bool
@@ -75,10 +79,10 @@ fn sums_stay(bits: u8, v: &Numbers, w: &Numbers) -> bool
     requires w { AreSome w.now }
     ensures { IsTrue result ↔ EachStays over.Add bits v.now w.now }
 {
-    if !is_of_width(bits, &Sum { first: (1, v.base), second: (1, v.lo), third: (1, w.base), fourth: (1, w.lo) }) {
+    if !is_of_width(bits, &Sum { a: 1, w: v.base, b: 1, x: v.lo, c: 1, y: w.base, d: 1, z: w.lo }) {
         return false;
     }
-    is_of_width(bits, &Sum { first: (1, v.base), second: (1, v.hi), third: (1, w.base), fourth: (1, w.hi) })
+    is_of_width(bits, &Sum { a: 1, w: v.base, b: 1, x: v.hi, c: 1, y: w.base, d: 1, z: w.hi })
 }
 
 fn differences_stay(bits: u8, v: &Numbers, w: &Numbers) -> bool
@@ -86,17 +90,17 @@ fn differences_stay(bits: u8, v: &Numbers, w: &Numbers) -> bool
     requires w { AreSome w.now }
     ensures { IsTrue result ↔ EachStays over.Sub bits v.now w.now }
 {
-    if !is_of_width(bits, &Sum { first: (1, v.base), second: (1, v.lo), third: (-1, w.base), fourth: (-1, w.hi) }) {
+    if !is_of_width(bits, &Sum { a: 1, w: v.base, b: 1, x: v.lo, c: -1, y: w.base, d: -1, z: w.hi }) {
         return false;
     }
-    is_of_width(bits, &Sum { first: (1, v.base), second: (1, v.hi), third: (-1, w.base), fourth: (-1, w.lo) })
+    is_of_width(bits, &Sum { a: 1, w: v.base, b: 1, x: v.hi, c: -1, y: w.base, d: -1, z: w.lo })
 }
 
 /// Whether the product of a number of the one and a number of the other is of this width.
 fn product_stays(bits: u8, v: &Numbers, x: &i128, w: &Numbers, y: &i128) -> bool
     ensures { IsTrue result ↔ IsOfWidth bits ((v.now.base +ℤ x.now) *ℤ (w.now.base +ℤ y.now)) }
 {
-    is_of_width(bits, &Sum { first: (v.base, w.base), second: (v.base, *y), third: (*x, w.base), fourth: (*x, *y) })
+    is_of_width(bits, &Sum { a: v.base, w: w.base, b: v.base, x: *y, c: *x, y: w.base, d: *x, z: *y })
 }
 
 /// Whether the products of one number with both ends of the others are of this width.
@@ -124,10 +128,10 @@ fn negations_stay(bits: u8, v: &Numbers) -> bool
     requires { AreSome v.now }
     ensures { IsTrue result ↔ EachOne v.now (λ x. IsOfWidth bits (neg_ℤ x)) }
 {
-    if !is_of_width(bits, &Sum { first: (-1, v.base), second: (-1, v.lo), third: (0, 0), fourth: (0, 0) }) {
+    if !is_of_width(bits, &Sum { a: -1, w: v.base, b: -1, x: v.lo, c: 0, y: 0, d: 0, z: 0 }) {
         return false;
     }
-    is_of_width(bits, &Sum { first: (-1, v.base), second: (-1, v.hi), third: (0, 0), fourth: (0, 0) })
+    is_of_width(bits, &Sum { a: -1, w: v.base, b: -1, x: v.hi, c: 0, y: 0, d: 0, z: 0 })
 }
 
 /// Whether the least number of the signed type of this width is one of these.

@@ -14,11 +14,9 @@ use Rattle.po_holds.proofs.asking.are_aligned.Goals as goal
 pub returns-then-at : goal.returns-then-at
 returns-then-at c =
     let within : c.args.align ≤ c.args.c.now.align = omega (arith, c.if-c-align.false) in
-    through (aligned.is_one c.args.align) (aligned.more_aligned c.args.at.now c.args.align c.args.c.now c.if-at.true within)
+    through (aligned.is_one c.args.align) (aligned.more_aligned c.args.at.now c.args.align c.args.c.now (omega (arith, ints, c.if-at.true)) within)
 
 pub returns : goal.returns
 returns c =
     let within : c.args.align ≤ c.args.c.now.align = omega (arith, c.if-c-align.false) in
-    let fits_base : FitsSigned w128 c.args.at.now.base = search rules in
-    let fits_lo : FitsSigned w128 c.args.at.now.lo = search rules in
     through c.is_multiple.ensures (aligned.one_aligned c.args.at.now c.args.align c.args.c.now c.requires (omega (arith, ints, c.if-at.false)) within)

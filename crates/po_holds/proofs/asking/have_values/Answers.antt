@@ -27,4 +27,4 @@ returns-then-is_hole c =
 
 pub returns : goal.returns
 returns c =
-    (λ h. all_values c.args.bytes.now (place_of c.args.from.now) (place_of c.args.to.now) c.loop-i.invariant, λ h. refl)
+    (λ h. all_values c.args.bytes.now (place_of c.args.from.now) (place_of c.args.to.now) (λ j less low high. c.loop-i.invariant j (omega arith) low high), λ h. refl)

@@ -23,6 +23,7 @@ returns c =
     let narrow : FitsSigned w64 c.args.end.now.factor = search rules in
     let fits_factor : FitsSigned w128 c.args.end.now.factor = omega (arith, ints) in
     let fits_times : FitsSigned w128 (pos 0 +ℤ neg_ℤ c.args.end.now.factor) = omega (arith, ints) in
+    let fits_turned : FitsSigned w128 (neg_ℤ c.args.end.now.factor) = omega (arith, ints, narrow) in
     let neg_is : pos 0 +ℤ neg_ℤ c.args.end.now.factor ≡ neg_ℤ c.args.end.now.factor = omega (arith, ints) in
     let i_is : to_z w128 c.args.i ≡ pos c.args.i = to_z_pos w128 c.args.i (omega (arith, c.ranges.i)) in
     let sum : IsTrue c.is_negative.result ↔ ((pos 1 *ℤ pos c.args.i +ℤ (negsuc 0 *ℤ c.args.end.now.base +ℤ (negsuc 0 *ℤ c.args.end.now.moved +ℤ (neg_ℤ c.args.end.now.factor *ℤ c.args.end.now.number +ℤ (neg_ℤ c.args.end.now.factor *ℤ c.args.end.now.added +ℤ pos 0))))) <ℤ pos 0) = simp (to_z-of_z, neg_is, i_is) at c.is_negative.ensures in
