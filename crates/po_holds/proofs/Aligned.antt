@@ -1,6 +1,6 @@
 -- Multiples: of a sum, and side by side.
 use Rattle.std.proofs.Common.{◌≡◌, ◌≤◌, ◌<◌, ◌+◌, ◌*◌, ◌/◌, ◌%◌, ℕ, zero, suc, sym, ap, ◌∙◌, subst, refl, arith, inl, inr, FitsSigned}
-use Rattle.std.specs.Prelude.{ℤ, pos, negsuc, ◌+ℤ◌, ◌≤ℤ◌, ◌<ℤ◌, ◌↔◌, ◌≢◌, IsTrue, nat_eq, unsigned_abs}
+use Rattle.std.specs.Prelude.{ℤ, pos, negsuc, ◌+ℤ◌, ◌≤ℤ◌, ◌<ℤ◌, ◌↔◌, IsTrue, nat_eq, unsigned_abs}
 use Rattle.std.specs.Int.{w128}
 use Rattle.std.proofs.lemmas.Int.{ints}
 use Rattle.std.proofs.lemmas.Nat.{div-add-mod', mod_below, mod-mul-add}
@@ -9,7 +9,7 @@ use Rattle.std.proofs.Math.Nat.{mul-le-mul_right, suc-mul}
 use Rattle.po_memory.specs.declared.block.Block.{Block}
 use Rattle.po_memory.specs.Blocks.{IsMultiple, IsAligned}
 use Rattle.po_holds.specs.declared.choosing.Numbers.{Numbers}
-use Rattle.po_holds.specs.Choosing.{IsOneOf, AreSome, least, greatest}
+use Rattle.po_holds.specs.Choosing.{IsOneOf}
 
 same_multiple : (q p a : ℕ) → q * a + 1 ≡ p * a → a ≡ 1
 same_multiple q p zero next = absurd (omega arith)
@@ -78,3 +78,11 @@ more_aligned at align c more within = (λ same o one. (subst (λ a. IsMultiple a
 
 pub is_one : (a : ℕ) → IsTrue (nat_eq a 1) ↔ (a ≡ 1)
 is_one a = (λ h. grind arith, λ h. rw h refl)
+
+pub zero_tells : (a : ℕ) (x y : ℤ) (m n : ℕ) → m ≡ unsigned_abs x → n ≡ unsigned_abs y → 0 < a → FitsSigned w128 x → FitsSigned w128 y → (FitsSigned w128 (x +ℤ y) → ⊥) → IsTrue (nat_eq ((m % a + n % a) % a) 0) ↔ IsMultiple a (x +ℤ y)
+zero_tells a x y m n m_is n_is some fits_x fits_y out =
+    let left : (m % a + n % a) % a ≡ unsigned_abs (x +ℤ y) % a = left_of_sum a m n some ∙ (λ i. (m_is i + n_is i) % a) ∙ ap (λ k. k % a) (sym (size_of_sum x y fits_x fits_y out)) in
+    (λ h. sym left ∙ equal h, λ h. rw (left ∙ h) refl)
+  where
+    equal : IsTrue (nat_eq ((m % a + n % a) % a) 0) → (m % a + n % a) % a ≡ 0
+    equal h = grind arith

@@ -1,6 +1,6 @@
 -- What is asked of each place of a block, at the ends of the places.
-use Rattle.std.proofs.Common.{◌≡◌, ◌≤◌, ◌<◌, ◌+◌, ◌-◌, ◌*◌, ◌%◌, ℕ, zero, suc, sym, ap, ◌∙◌, subst, refl, arith, inl, inr, length}
-use Rattle.std.specs.Prelude.{ℤ, pos, negsuc, neg_ℤ, ◌+ℤ◌, ◌-ℤ◌, ◌*ℤ◌, ◌≤ℤ◌, ◌<ℤ◌, ◌↔◌, ◌⊎◌, ◌≢◌, List, Option, Some, None, Bool, true, false, not, IsTrue, slice_get, unsigned_abs}
+use Rattle.std.proofs.Common.{◌≡◌, ◌<◌, ◌+◌, ℕ, suc, sym, ap, ◌∙◌, subst, refl, arith, inl, inr, length}
+use Rattle.std.specs.Prelude.{ℤ, pos, negsuc, neg_ℤ, ◌+ℤ◌, ◌-ℤ◌, ◌*ℤ◌, ◌≤ℤ◌, ◌<ℤ◌, ◌↔◌, ◌≢◌, List, Option, Some, None, Bool, false, not, IsTrue, slice_get}
 use Rattle.std.proofs.lemmas.Int.{ints, by_lt_z}
 use Rattle.std.proofs.lemmas.Bool.{cases_lt}
 use Rattle.std.proofs.lemmas.Option.{slice_get_past}
@@ -12,13 +12,12 @@ use Rattle.po_memory.specs.declared.value.Byte.TheVariants as byte
 use Rattle.po_memory.specs.declared.value.Value.{Value}
 use Rattle.po_memory.specs.declared.value.Value.TheVariants.{Number, Null, Pointer, Wild}
 use Rattle.po_memory.specs.Values.{moved}
-use Rattle.po_memory.specs.Blocks.{IsInside, Spans, HaveValues, IsFilled, OnBlock, OnPointer}
+use Rattle.po_memory.specs.Blocks.{Spans, HaveValues, IsFilled, OnBlock, OnPointer}
 use Rattle.po_holds.specs.declared.choosing.Numbers.{Numbers}
 use Rattle.po_holds.specs.declared.choosing.Pointers.{Pointers}
-use Rattle.po_holds.specs.declared.asking.Ask.{Ask}
 use Rattle.po_holds.specs.declared.asking.End.{End}
 use Rattle.po_holds.specs.Choosing.{IsOneOf, AreSome, EachMoved, least, greatest}
-use Rattle.po_holds.specs.Asking.{EachScaled, Asks, EachAsks, EachInside, IsLeast, IsGreatest, place_of}
+use Rattle.po_holds.specs.Asking.{EachScaled, EachInside, IsLeast, IsGreatest, place_of}
 use Rattle.po_holds.proofs.Products.{distributes_over, times_neg}
 use Rattle.po_holds.proofs.Sums.{tells_not}
 use Rattle.po_holds.proofs.Telling.{not_tells}
@@ -73,9 +72,10 @@ not_before t y z tells = (λ h. by_lt_z y z (λ less. absurd ((not_tells t tells
 
 pub inside_tells : (k : ℤ) (at r : Numbers) (c : Block) (low high : ℤ) → AreSome at → IsLeast k r low → IsGreatest k r high →
     ((pos 0 ≤ℤ (least at +ℤ k *ℤ (r.base +ℤ low))) × ((greatest at +ℤ k *ℤ (r.base +ℤ high)) ≤ℤ pos (length c.bytes))) ↔ EachInside k at r c
-inside_tells k at r c low high some is_low is_high =
-    (λ h. (all_inside k at r c low high some is_low is_high h.0).0 h.1,
-    λ h. ((h (least at) (r.base +ℤ low) (omega (arith, ints), omega (arith, ints)) is_low.one).0, (h (greatest at) (r.base +ℤ high) (omega (arith, ints), omega (arith, ints)) is_high.one).1))
+inside_tells k at r c low high some is_low is_high = (
+  λ h. (all_inside k at r c low high some is_low is_high h.0).0 h.1,
+  λ h. ((h (least at) (r.base +ℤ low) (omega (arith, ints), omega (arith, ints)) is_low.one).0, (h (greatest at) (r.base +ℤ high) (omega (arith, ints), omega (arith, ints)) is_high.one).1),
+)
 
 pub low_tells : (k : ℤ) (at r : Numbers) (low : ℤ) (t : Bool) → (IsTrue t ↔ ((pos 1 *ℤ at.base +ℤ (pos 1 *ℤ at.lo +ℤ (k *ℤ r.base +ℤ (k *ℤ low +ℤ pos 0)))) <ℤ pos 0)) → IsTrue (not t) ↔ (pos 0 ≤ℤ (least at +ℤ k *ℤ (r.base +ℤ low)))
 low_tells k at r low t tells =
@@ -111,9 +111,10 @@ before i e t tells =
 
 -- both ends are asked of each place
 pub all_spanned : (k : ℤ) (at lo hi : Numbers) (c : Block) → AreSome lo → AreSome hi → (EachInside k at lo c × EachInside k at hi c) ↔ ((o : ℤ) → IsOneOf at o → EachScaled k lo hi (λ from to. Spans from to o c))
-all_spanned k at lo hi c lo_some hi_some =
-    (λ both o one l h l_in h_in. (both.0 o l one l_in, both.1 o h one h_in),
-    λ g. (λ o l one l_in. (g o one l (least hi) l_in (omega (arith, ints), omega (arith, ints))).0, λ o h one h_in. (g o one (least lo) h (omega (arith, ints), omega (arith, ints)) h_in).1))
+all_spanned k at lo hi c lo_some hi_some = (
+  λ both o one l h l_in h_in. (both.0 o l one l_in, both.1 o h one h_in),
+  λ g. (λ o l one l_in. (g o one l (least hi) l_in (omega (arith, ints), omega (arith, ints))).0, λ o h one h_in. (g o one (least lo) h (omega (arith, ints), omega (arith, ints)) h_in).1),
+)
 
 -- ---- filled
 
@@ -128,6 +129,7 @@ all_filled k at lo hi c low high some is_low is_high less = (there, back)
         let first = one.0 in
         let last = one.1 in
         values i (omega (arith, ints)) (omega (arith, ints))
+
     back : ((o : ℤ) → IsOneOf at o → EachScaled k lo hi (λ from to. IsFilled from to o c)) → HaveValues (least at +ℤ k *ℤ (lo.base +ℤ low)) (greatest at +ℤ k *ℤ (hi.base +ℤ high)) c.bytes
     back each i from to = by_lt_z (greatest at) (pos i -ℤ k *ℤ (lo.base +ℤ low))
         (λ far. each (greatest at) (omega (arith, ints), omega (arith, ints)) (lo.base +ℤ low) (hi.base +ℤ high) is_low.one is_high.one i (omega (arith, ints)) (omega (arith, ints)))
@@ -164,6 +166,7 @@ module _ (P : ℤ → Block → Type 0) (blocks : List Block) (r : Pointers) whe
     where
       out : ((o : ℤ) → IsOneOf at o → P o c) → EachMoved r (λ v. OnPointer P blocks v)
       out g n low high = subst (λ u. OnPointer P blocks (moved u n)) (sym base) (subst (OnBlock P (offset +ℤ n)) (sym there) (g (offset +ℤ n) (omega (arith, ints), omega (arith, ints))))
+
       into : EachMoved r (λ v. OnPointer P blocks v) → (o : ℤ) → IsOneOf at o → P o c
       into h o one =
           let low = one.0 in

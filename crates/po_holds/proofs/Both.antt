@@ -1,11 +1,11 @@
 -- What is asked of each of two pointers, at the ends of their places.
-use Rattle.std.proofs.Common.{◌≡◌, ◌+◌, ℕ, sym, ap, ◌∙◌, subst, refl, arith, inl, inr}
+use Rattle.std.proofs.Common.{◌≡◌, ℕ, sym, subst, refl, arith, inl, inr}
 use Rattle.std.specs.Prelude.{ℤ, pos, ◌+ℤ◌, ◌-ℤ◌, ◌≤ℤ◌, ◌<ℤ◌, ◌↔◌, ◌⊎◌, List, Option, Some, None, slice_get}
 use Rattle.std.proofs.lemmas.Int.{ints, by_lt_z}
 use Rattle.po_memory.specs.declared.block.Block.{Block}
 use Rattle.po_memory.specs.declared.value.Value.{Value}
 use Rattle.po_memory.specs.declared.value.Value.TheVariants.{Number, Null, Pointer, Wild}
-use Rattle.po_memory.specs.Values.{moved}
+use Rattle.po_memory.specs.Values.{moved, IsPointer}
 use Rattle.po_memory.specs.Blocks.{IntoOne, AreApart, StandApart, HasRoom, Fits, FitsOn}
 use Rattle.po_holds.specs.declared.choosing.Numbers.{Numbers}
 use Rattle.po_holds.specs.declared.choosing.Pointers.{Pointers}
@@ -35,13 +35,16 @@ apart_before p q n p_some q_some n_some some not_after = (λ h o r z one two thr
   where
     reaches : pos 0 <ℤ greatest n
     reaches = by_lt_z (pos 0) (greatest n) (λ less. less) (λ not_less. absurd (some ((none_reached n n_some).0 not_less)))
+
     near : least q <ℤ (greatest p +ℤ greatest n)
     near = by_lt_z (least q) (greatest p +ℤ greatest n) (λ less. less) (λ not_less. absurd (not_after ((all_after p q n p_some q_some n_some).0 not_less)))
+
     too_near : (o r : ℤ) → IsOneOf p o → IsOneOf q r → r <ℤ (o +ℤ greatest n) → o <ℤ (r +ℤ greatest n) → EachApart p q n → ⊥
     too_near o r one two first second h = elim (h o r (greatest n) one two (omega (arith, ints), omega (arith, ints))) [
       | inl before ↦ absurd (omega (arith, ints))
       | inr behind ↦ absurd (omega (arith, ints))
     ]
+
     far : EachApart p q n → least p <ℤ (greatest q +ℤ greatest n) → ⊥
     far h other =
         let large = reaches in
@@ -51,6 +54,7 @@ apart_before p q n p_some q_some n_some some not_after = (λ h o r z one two thr
         (λ above. by_lt_z (greatest q) (greatest p -ℤ greatest n +ℤ pos 1)
         (λ less. too_near (greatest q +ℤ greatest n -ℤ pos 1) (greatest q) (omega (arith, ints), omega (arith, ints)) (omega (arith, ints), omega (arith, ints)) (omega (arith, ints)) (omega (arith, ints)) h)
         (λ more. too_near (greatest p) (greatest p -ℤ greatest n +ℤ pos 1) (omega (arith, ints), omega (arith, ints)) (omega (arith, ints), omega (arith, ints)) (omega (arith, ints)) (omega (arith, ints)) h))
+
     back : EachApart p q n → EachAfter q p n
     back h = (all_after q p n q_some p_some n_some).0 (by_lt_z (least p) (greatest q +ℤ greatest n) (λ less. absurd (far h less)) (λ not_less. not_less))
 
@@ -91,9 +95,10 @@ module _ (v w : Pointers) (v_some : v.lo ≤ℤ v.hi) (w_some : w.lo ≤ℤ w.hi
 
 -- of a value that points nowhere, what is so of null alone
 pub of_null : (R : Value → Value → Type 0) (v w : Pointers) (x : Value) → v.base ≡ x → v.lo ≤ℤ v.hi → w.lo ≤ℤ w.hi → ((y : Value) (n k : ℤ) → R (moved x n) (moved y k) ↔ (y ≡ Null)) → (w.base ≡ Null) ↔ EachMoved v (λ a. EachMoved w (λ b. R a b))
-of_null R v w x is v_some w_some alike =
-    (λ e. each_by R v w x w.base is refl (λ n k a b c d. (alike w.base n k).1 e),
-    λ h. (alike w.base v.lo w.lo).0 (of_each R v w x w.base is refl h v.lo w.lo (omega (arith, ints)) v_some (omega (arith, ints)) w_some))
+of_null R v w x is v_some w_some alike = (
+  λ e. each_by R v w x w.base is refl (λ n k a b c d. (alike w.base n k).1 e),
+  λ h. (alike w.base v.lo w.lo).0 (of_each R v w x w.base is refl h v.lo w.lo (omega (arith, ints)) v_some (omega (arith, ints)) w_some),
+)
 
 pub number_room : (blocks : List Block) (m : ℤ) (y : Value) (n k : ℤ) → HasRoom blocks (moved (Number m) n) (moved y k) ↔ (y ≡ Null)
 number_room blocks m (Number a) n k = (λ h. absurd h, λ e. absurd (cc))
@@ -116,6 +121,27 @@ no_block blocks block o other r (inr none) h = second (slice_get blocks block) (
     second None h = h
     second (Some c) h = h
 
+pub apart_never : (v w : Pointers) (n : Numbers) (x y : Value) → v.lo ≤ℤ v.hi → w.lo ≤ℤ w.hi → AreSome n → v.base ≡ x → w.base ≡ y → ((z i k : ℤ) → AreApart z (moved x i) (moved y k) → ⊥) → MovedApart v w n → ⊥
+apart_never v w n x y v_some w_some some v_is w_is not h = not_of_all v w v_some w_some (AreApart (least n)) x y v_is w_is (not (least n)) (h (least n) (omega (arith, ints), omega (arith, ints)))
+
+pub apart_of_pointers : (v w : Pointers) (n : Numbers) (x : Value) → v.lo ≤ℤ v.hi → w.lo ≤ℤ w.hi → AreSome n → v.base ≡ x → ((y : Value) (z i k : ℤ) → AreApart z (moved x i) (moved y k) ↔ IsPointer y) → IsPointer w.base ↔ MovedApart v w n
+apart_of_pointers v w n x v_some w_some some is alike = (
+  λ p z z_in. each_by (AreApart z) v w x w.base is refl (λ i k a b c d. (alike w.base z i k).1 p),
+  λ h. (alike w.base (least n) v.lo w.lo).0 (of_each (AreApart (least n)) v w x w.base is refl (h (least n) (omega (arith, ints), omega (arith, ints))) v.lo w.lo (omega (arith, ints)) v_some (omega (arith, ints)) w_some),
+)
+
+pub null_apart : (y : Value) (z i k : ℤ) → AreApart z (moved Null i) (moved y k) ↔ IsPointer y
+null_apart (Number a) z i k = (λ h. h, λ h. h)
+null_apart Null z i k = (λ h. tt, λ h. tt)
+null_apart (Pointer b o) z i k = (λ h. tt, λ h. tt)
+null_apart Wild z i k = (λ h. tt, λ h. tt)
+
+pub wild_apart : (y : Value) (z i k : ℤ) → AreApart z (moved Wild i) (moved y k) ↔ IsPointer y
+wild_apart (Number a) z i k = (λ h. h, λ h. h)
+wild_apart Null z i k = (λ h. tt, λ h. tt)
+wild_apart (Pointer b o) z i k = (λ h. tt, λ h. tt)
+wild_apart Wild z i k = (λ h. tt, λ h. tt)
+
 pub apart_in : (v w : Pointers) (n p q : Numbers) (block : ℕ) (offset : ℤ) (other : ℕ) (place : ℤ) → v.base ≡ Pointer block offset → w.base ≡ Pointer other place →
     (p.base ≡ offset) × (p.lo ≡ v.lo) × (p.hi ≡ v.hi) → (q.base ≡ place) × (q.lo ≡ w.lo) × (q.hi ≡ w.hi) → block ≡ other → EachApart p q n ↔ MovedApart v w n
 apart_in v w n p q block offset other place v_is w_is p_is q_is one = (there, back)
@@ -132,6 +158,7 @@ apart_in v w n p q block offset other place v_is w_is p_is q_is one = (there, ba
             let q_lo = q_is.1 in
             let q_hi = q_is.2 in
             inr (h (offset +ℤ i) (place +ℤ k) z (omega (arith, ints), omega (arith, ints)) (omega (arith, ints), omega (arith, ints)) z_in)
+
     back : MovedApart v w n → EachApart p q n
     back h o r z o_in r_in z_in =
         let p_base = p_is.0 in
@@ -168,6 +195,7 @@ room_in blocks v w p q block offset other place c d v_is w_is p_is q_is c_there 
             let q_lo = q_is.1 in
             let q_hi = q_is.2 in
             subst (λ m. FitsOn (offset +ℤ i) m (place +ℤ k) (slice_get blocks other)) (sym c_there) (subst (λ m. FitsOn (offset +ℤ i) (Some c) (place +ℤ k) m) (sym d_there) (h (offset +ℤ i) (place +ℤ k) (omega (arith, ints), omega (arith, ints)) (omega (arith, ints), omega (arith, ints))))
+
     back : MovedRoom blocks v w → EachFits c p d q
     back h o r o_in r_in =
         let p_base = p_is.0 in

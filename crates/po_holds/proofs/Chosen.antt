@@ -1,12 +1,12 @@
 -- What is asked of each pointer and of each number of a place.
 use Rattle.std.proofs.Common.{◌≡◌, sym, ap, ◌∙◌, subst, refl, arith}
-use Rattle.std.specs.Prelude.{ℤ, pos, ◌+ℤ◌, ◌-ℤ◌, ◌≤ℤ◌, ◌↔◌, Bool, true, false, IsTrue, Option, Some, None}
+use Rattle.std.specs.Prelude.{ℤ, pos, ◌+ℤ◌, ◌↔◌, Bool, true, false, IsTrue, Option, Some, None}
 use Rattle.std.proofs.lemmas.Int.{ints}
 use Rattle.po_pred.specs.declared.pred.Place.{Place}
 use Rattle.po_memory.specs.declared.frame.Frame.{Frame}
 use Rattle.po_memory.specs.declared.value.Value.{Value}
 use Rattle.po_memory.specs.declared.value.Value.TheVariants.{Number}
-use Rattle.po_memory.specs.Values.{moved, IsPointer, pointer_base, number_base, ChoosesPointer, ChoosesNumber, HasPointer, HasNumber, EachPointer, EachNumber, EachSecond}
+use Rattle.po_memory.specs.Values.{moved, ChoosesPointer, ChoosesNumber, EachPointer, EachNumber, EachSecond}
 use Rattle.po_holds.specs.declared.choosing.Numbers.{Numbers}
 use Rattle.po_holds.specs.declared.choosing.Pointers.{Pointers}
 use Rattle.po_holds.specs.Choosing.{IsOneOf, AreSome, EachMoved, AreNumbers, ArePointers, SettlesNumber, SettlesPointer, AreSecond, SettlesSecond}
@@ -114,9 +114,10 @@ module _ (f : Frame) (p : Place) (P : Value → Type 0) where
 
 pub two_pointers : (f : Frame) (p q : Place) (R : Value → Value → Type 0) (v w : Pointers) → ArePointers f p v → ArePointers f q w →
     EachMoved v (λ a. EachMoved w (λ b. R a b)) ↔ EachPointer f p (λ a. EachPointer f q (λ b. R a b))
-two_pointers f p q R v w v_are w_are =
-    (λ h. pointer_back f p (λ a. EachPointer f q (λ b. R a b)) v v_are (λ n low high. pointer_back f q (λ b. R (moved v.base n) b) w w_are (h n low high)),
-    λ h n low high. pointer_there f q (λ b. R (moved v.base n) b) w w_are (pointer_there f p (λ a. EachPointer f q (λ b. R a b)) v v_are h n low high))
+two_pointers f p q R v w v_are w_are = (
+  λ h. pointer_back f p (λ a. EachPointer f q (λ b. R a b)) v v_are (λ n low high. pointer_back f q (λ b. R (moved v.base n) b) w w_are (h n low high)),
+  λ h n low high. pointer_there f q (λ b. R (moved v.base n) b) w w_are (pointer_there f p (λ a. EachPointer f q (λ b. R a b)) v v_are h n low high),
+)
 
 pub two_pointers_and_number : (f : Frame) (p q x : Place) (R : Value → Value → ℤ → Type 0) (v w : Pointers) (n : Numbers) → ArePointers f p v → ArePointers f q w → AreNumbers f x n →
     ((z : ℤ) → IsOneOf n z → EachMoved v (λ a. EachMoved w (λ b. R a b z))) ↔ EachPointer f p (λ a. EachPointer f q (λ b. EachNumber f x (λ z. R a b z)))
@@ -124,18 +125,21 @@ two_pointers_and_number f p q x R v w n v_are w_are n_are = (there, back)
   where
     there : ((z : ℤ) → IsOneOf n z → EachMoved v (λ a. EachMoved w (λ b. R a b z))) → EachPointer f p (λ a. EachPointer f q (λ b. EachNumber f x (λ z. R a b z)))
     there h = (two_pointers f p q (λ a b. EachNumber f x (λ z. R a b z)) v w v_are w_are).0 (λ i low high k low' high'. number_back f x (λ z. R (moved v.base i) (moved w.base k) z) n n_are (λ z one. h z one i low high k low' high'))
+
     back : EachPointer f p (λ a. EachPointer f q (λ b. EachNumber f x (λ z. R a b z))) → (z : ℤ) → IsOneOf n z → EachMoved v (λ a. EachMoved w (λ b. R a b z))
     back h z one i low high k low' high' = number_there f x (λ z. R (moved v.base i) (moved w.base k) z) n n_are ((two_pointers f p q (λ a b. EachNumber f x (λ z. R a b z)) v w v_are w_are).1 h i low high k low' high') z one
 
 pub two_numbers : (f : Frame) (a : Place) (b : Option Place) (R : ℤ → ℤ → Type 0) (v w : Numbers) → AreNumbers f a v → AreSecond f b w →
     ((x y : ℤ) → IsOneOf v x → IsOneOf w y → R x y) ↔ EachNumber f a (λ x. EachSecond f b (λ y. R x y))
-two_numbers f a b R v w v_are w_are =
-    (λ h. number_back f a (λ x. EachSecond f b (λ y. R x y)) v v_are (λ x x_in. second_back f (R x) b w w_are (λ y y_in. h x y x_in y_in)),
-    λ h x y x_in y_in. second_there f (R x) b w w_are (number_there f a (λ x. EachSecond f b (λ y. R x y)) v v_are h x x_in) y y_in)
+two_numbers f a b R v w v_are w_are = (
+  λ h. number_back f a (λ x. EachSecond f b (λ y. R x y)) v v_are (λ x x_in. second_back f (R x) b w w_are (λ y y_in. h x y x_in y_in)),
+  λ h x y x_in y_in. second_there f (R x) b w w_are (number_there f a (λ x. EachSecond f b (λ y. R x y)) v v_are h x x_in) y y_in,
+)
 
 -- what is asked of a pointer and two numbers, as asked of the pointer for all numbers
 pub pointer_and_numbers : (f : Frame) (p x y : Place) (R : Value → ℤ → ℤ → Type 0) (A : Value → Type 0) (v : Pointers) (l h : Numbers) → ArePointers f p v → AreNumbers f x l → AreNumbers f y h →
     ((a : Value) → A a ↔ ((i j : ℤ) → IsOneOf l i → IsOneOf h j → R a i j)) → EachMoved v A ↔ EachPointer f p (λ a. EachNumber f x (λ i. EachNumber f y (λ j. R a i j)))
-pointer_and_numbers f p x y R A v l h v_are l_are h_are same =
-    (λ g. pointer_back f p (λ a. EachNumber f x (λ i. EachNumber f y (λ j. R a i j))) v v_are (λ n low high. (two_numbers f x (Some y) (R (moved v.base n)) l h l_are h_are).0 ((same (moved v.base n)).0 (g n low high))),
-    λ g n low high. (same (moved v.base n)).1 ((two_numbers f x (Some y) (R (moved v.base n)) l h l_are h_are).1 (pointer_there f p (λ a. EachNumber f x (λ i. EachNumber f y (λ j. R a i j))) v v_are g n low high)))
+pointer_and_numbers f p x y R A v l h v_are l_are h_are same = (
+  λ g. pointer_back f p (λ a. EachNumber f x (λ i. EachNumber f y (λ j. R a i j))) v v_are (λ n low high. (two_numbers f x (Some y) (R (moved v.base n)) l h l_are h_are).0 ((same (moved v.base n)).0 (g n low high))),
+  λ g n low high. (same (moved v.base n)).1 ((two_numbers f x (Some y) (R (moved v.base n)) l h l_are h_are).1 (pointer_there f p (λ a. EachNumber f x (λ i. EachNumber f y (λ j. R a i j))) v v_are g n low high)),
+)

@@ -1,6 +1,6 @@
 -- Where strings end.
-use Rattle.std.proofs.Common.{◌≡◌, ◌≤◌, ◌<◌, ◌+◌, ◌-◌, ℕ, zero, suc, sym, ap, ◌∙◌, subst, refl, arith, inl, inr, length, List}
-use Rattle.std.specs.Prelude.{ℤ, pos, negsuc, ◌+ℤ◌, ◌≤ℤ◌, ◌<ℤ◌, ◌↔◌, ◌≢◌, Option, Some, None, Bool, true, false, IsTrue, slice_get}
+use Rattle.std.proofs.Common.{◌≡◌, ◌≤◌, ◌<◌, ◌+◌, ◌-◌, ℕ, sym, ◌∙◌, subst, refl, arith, inl, inr, length, List}
+use Rattle.std.specs.Prelude.{ℤ, pos, negsuc, ◌≤ℤ◌, ◌<ℤ◌, ◌↔◌, ◌≢◌, Option, Some, None, slice_get}
 use Rattle.std.proofs.lemmas.Int.{ints}
 use Rattle.std.proofs.lemmas.Bool.{cases_lt}
 use Rattle.std.proofs.lemmas.Option.{slice_get_past}
@@ -56,9 +56,9 @@ pub one_end : (bytes : List Byte) (at z y : ℕ) → EndsAt bytes at z → EndsA
 one_end bytes at z y first second = elim (cases_lt z y) [
   | inl less ↦ absurd (no_character bytes z first.zero (second.characters z first.behind less))
   | inr not_less ↦ elim (cases_lt y z) [
-      | inl more ↦ absurd (no_character bytes y second.zero (first.characters y second.behind more))
-      | inr not_more ↦ omega arith
-    ]
+    | inl more ↦ absurd (no_character bytes y second.zero (first.characters y second.behind more))
+    | inr not_more ↦ omega arith
+  ]
 ]
 
 pub no_end_past : (bytes : List Byte) (at z : ℕ) → length bytes ≤ at → EndsAt bytes at z → ⊥
@@ -126,6 +126,7 @@ all_terminated c at s some are = (there, back)
         let place = place_of at (length c.bytes) s o are one in
         let found = fits place.0 place.2 place.3 in
         subst (λ z. IsTerminated z c) (sym place.1) (found.zero - place.0, string_of c place.0 found.zero found.ends)
+
     back : ((o : ℤ) → IsOneOf at o → IsTerminated o c) → EachFitsIn c.bytes (length c.bytes) s.first s.last
     back h i low high =
         let first = are.first in
@@ -164,6 +165,7 @@ all_fit c d at from t s some some_from are are_from = (there, back)
         let below = target.3 in
         let within = are.within in
         (found.zero - place.0, subst (λ z. HasString (found.zero - place.0) z d) (sym place.1) string, omega (arith, ints), omega (arith, ints))
+
     back : ((o r : ℤ) → IsOneOf at o → IsOneOf from r → Fits o c r d) → EachFitsIn d.bytes (length c.bytes - t.last) s.first s.last
     back h i low high =
         let first = are_from.first in

@@ -1,5 +1,5 @@
 -- Sums of products in digits.
-use Rattle.std.proofs.Common.{◌≡◌, ◌^◌, ◌*◌, ◌+◌, ◌-◌, ◌≤◌, ◌<◌, ◌↔◌, ℕ, suc, arith, sym, ap, refl, ◌∙◌, subst, drop, length, List, [], ◌∷◌, FitsSigned}
+use Rattle.std.proofs.Common.{◌≡◌, ◌^◌, ◌*◌, ◌+◌, ◌≤◌, ◌↔◌, ℕ, suc, arith, sym, ap, refl, ◌∙◌, drop, List, FitsSigned}
 use Rattle.std.specs.Prelude.{ℤ, pos, negsuc, neg_ℤ, ◌+ℤ◌, ◌-ℤ◌, ◌*ℤ◌, ◌≤ℤ◌, ◌<ℤ◌, Some, Bool, true, false, not, IsTrue, slice_get}
 use Rattle.std.specs.Int.{int_shr, w128}
 use Rattle.std.proofs.lemmas.Int.{ints, by_lt_z}

@@ -1,23 +1,21 @@
 -- Widths of results, at the ends of ranges.
 use Rattle.std.proofs.Common.{◌≡◌, ◌≤◌, ◌<◌, ◌+◌, ◌-◌, ◌*◌, ◌%◌, ◌^◌, ℕ, zero, suc, sym, ap, ◌∙◌, subst, refl, arith, inl, inr}
-use Rattle.std.specs.Prelude.{ℤ, pos, negsuc, neg_ℤ, ◌+ℤ◌, ◌-ℤ◌, ◌*ℤ◌, ◌≤ℤ◌, ◌<ℤ◌, ◌↔◌, ◌⊎◌, ◌≢◌, Bool, not, IsTrue, Some}
+use Rattle.std.specs.Prelude.{ℤ, pos, negsuc, neg_ℤ, ◌+ℤ◌, ◌-ℤ◌, ◌*ℤ◌, ◌≤ℤ◌, ◌<ℤ◌, ◌↔◌, ◌⊎◌, ◌≢◌, Bool, not, IsTrue}
 use mir.Val.{to_z}
 use Rattle.std.specs.Int.{int_min, int_max, w128}
 use Rattle.std.proofs.lemmas.Int.{ints, clamps, by_lt_z, to_z_pos}
 use Rattle.std.proofs.lemmas.Nat.{pow-add, pow_pos, pow_below}
 use Rattle.std.proofs.lemmas.Bool.{cases_lt}
 use Rattle.std.proofs.Math.Nat.{mul-le-mul_right, mul-le-mul_left, mod-eq_of_lt}
-use Rattle.std.proofs.Math.IntN.{pos-*ℤ-pos}
-use Rattle.po_pred.specs.declared.pred.Over.{Over}
-use Rattle.po_pred.specs.declared.pred.Over.TheVariants.{Add, Sub, Mul, Div, Rem, Shl, Neg}
-use Rattle.po_arith.specs.Ranges.{range, products}
+use Rattle.po_pred.specs.declared.pred.Over.TheVariants.{Add, Sub, Mul, Div, Shl, Neg}
+use Rattle.po_arith.specs.Ranges.{range}
 use Rattle.po_arith.proofs.Powers.{pow_up}
 use Rattle.po_arith.proofs.RangesCover.{products_cover}
-use Rattle.po_memory.specs.Blocks.{IsOfWidth, IsShifted, StaysIn, half}
+use Rattle.po_memory.specs.Blocks.{IsOfWidth, IsShifted, half}
 use Rattle.po_holds.specs.declared.choosing.Numbers.{Numbers}
 use Rattle.po_holds.specs.declared.over.Power.{Power}
 use Rattle.po_holds.specs.Choosing.{IsOneOf, AreSome, least, greatest}
-use Rattle.po_holds.specs.Over.{EachOne, EachTwo, EachStays, EndsStay, minus, IsPower}
+use Rattle.po_holds.specs.Over.{EachOne, EachStays, EndsStay, minus, IsPower}
 use Rattle.po_holds.proofs.Products.{distributes, distributes_over, times_neg}
 use Rattle.po_holds.proofs.Sums.{tells_not}
 
@@ -104,6 +102,7 @@ products_stay bits v w v_some w_some = (there, back)
     there (low, high) x y x_in y_in =
         let inside = products_cover (range (least v) (greatest v)) (range (least w) (greatest w)) x y x_in y_in in
         hull_stays bits (least v *ℤ least w) (least v *ℤ greatest w) (greatest v *ℤ least w) (greatest v *ℤ greatest w) (x *ℤ y) low.0 low.1 high.0 high.1 inside.0 inside.1
+
     back : EachStays Mul bits v w → EndsStay bits (least v) w × EndsStay bits (greatest v) w
     back h =
         let v_low : IsOneOf v (least v) = (omega (arith, ints), omega (arith, ints)) in
@@ -152,6 +151,7 @@ natural_shift a b n = elim (cases_lt n b) [
     far_less : (a b n : ℕ) → n < b → a * 2 ^ b < 2 ^ n → a < 2 ^ (n - b)
     far_less zero b n far h = pow_pos (n - b)
     far_less (suc a) b n far h = let more = pow_below n b far in absurd (omega arith)
+
     far_zero : (a b n : ℕ) → n < b → a < 2 ^ (n - b) → a * 2 ^ b < 2 ^ n
     far_zero a b n far h =
         let none : n - b ≡ 0 = omega arith in
@@ -196,11 +196,13 @@ shifts_stay bits left v w v_some w_some v_up w_up room = (there, back)
   where
     last : (n : ℕ) × (greatest w ≡ pos n)
     last = natural_of (greatest w) (omega (arith, ints))
+
     there : greatest v <ℤ pos (2 ^ left) → EachStays Shl bits v w
     there less x y x_in y_in =
         let limit = subst (λ k. greatest v <ℤ pos (2 ^ k)) (room last.0 last.1) less in
         let a = x_in.0 in let b = x_in.1 in let c = y_in.0 in let d = y_in.1 in
         shift_one bits w last.0 x y last.1 (omega (arith, ints)) (omega (arith, ints)) (omega (arith, ints)) (omega (arith, ints))
+
     back : EachStays Shl bits v w → greatest v <ℤ pos (2 ^ left)
     back h =
         let one = h (greatest v) (greatest w) (omega (arith, ints), omega (arith, ints)) (omega (arith, ints), omega (arith, ints)) in
@@ -216,6 +218,7 @@ all_miss_zero r some = (there, back)
       | inl below ↦ absurd (omega (arith, ints))
       | inr above ↦ absurd (omega (arith, ints))
     ]
+
     back : EachOne r (λ z. z ≢ pos 0) → (greatest r <ℤ pos 0) ⊎ (pos 0 <ℤ least r)
     back h = by_lt_z (greatest r) (pos 0) (λ below. inl below) (λ up. by_lt_z (pos 0) (least r) (λ above. inr above) (λ down. absurd (h (pos 0) (omega (arith, ints), omega (arith, ints)) refl)))
 

@@ -1,9 +1,9 @@
 -- What is asked of each place of a block. Private clauses alone cite these words.
-use Rattle.std.specs.Prelude.{ℕ, ◌+◌, ◌-◌, ◌^◌, ◌≤◌, ◌<◌, ◌≡◌, ◌⊎◌, ℤ, pos, ◌+ℤ◌, ◌*ℤ◌, ◌≤ℤ◌, ◌<ℤ◌, List, Option, Some, None, MatchOption, length, slice_get}
+use Rattle.std.specs.Prelude.{ℕ, ◌+◌, ◌≤◌, ◌<◌, ◌≡◌, ℤ, pos, ◌+ℤ◌, ◌*ℤ◌, ◌≤ℤ◌, ◌<ℤ◌, List, Option, Some, MatchOption, slice_get}
 use Rattle.po_memory.specs.declared.block.Block.{Block}
 use Rattle.po_memory.specs.declared.value.Byte.{Byte}
 use Rattle.po_memory.specs.declared.value.Byte.TheVariants as byte
-use Rattle.po_memory.specs.Blocks.{IsLive, IsInside, Spans, HaveValues, IsFilled, IsWritable, IsAligned, StartsHeap, IsTerminated, IsCharacter}
+use Rattle.po_memory.specs.Blocks.{IsLive, IsInside, Spans, IsFilled, IsWritable, IsAligned, StartsHeap, IsTerminated, IsCharacter}
 use Rattle.po_holds.specs.declared.asking.Ask.{Ask}
 use Rattle.po_holds.specs.declared.asking.Ask.TheVariants.{Live, Writable, Aligned, HeapStart, Terminated, Span, Filled}
 use Rattle.po_holds.specs.declared.asking.End.{End}

@@ -1,6 +1,6 @@
 -- The pointers and the numbers that a place may be, as what it stands on and how far that may be moved. Private clauses alone
 -- cite these words.
-use Rattle.std.specs.Prelude.{ℤ, pos, ◌≡◌, ◌⊎◌, ◌+ℤ◌, ◌≤ℤ◌, ◌<ℤ◌, Bool, IsTrue, IsFalse, Option, Some, None}
+use Rattle.std.specs.Prelude.{ℤ, pos, ◌≡◌, ◌+ℤ◌, ◌≤ℤ◌, ◌<ℤ◌, Bool, IsTrue, IsFalse, Option, Some, None}
 use Rattle.po_pred.specs.declared.pred.Place.{Place}
 use Rattle.po_memory.specs.declared.frame.Frame.{Frame}
 use Rattle.po_memory.specs.declared.value.Value.{Value}

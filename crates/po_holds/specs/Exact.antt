@@ -1,5 +1,5 @@
 -- Sums of products of numbers of 128 bits, in digits to the base 2^48. Private clauses alone cite these words.
-use Rattle.std.specs.Prelude.{ℕ, ◌*◌, ◌^◌, ◌+◌, ℤ, pos, neg_ℤ, ◌≡◌, ◌+ℤ◌, ◌*ℤ◌, ◌≤ℤ◌, List, [], ◌∷◌}
+use Rattle.std.specs.Prelude.{ℕ, ◌*◌, ◌^◌, ℤ, pos, neg_ℤ, ◌+ℤ◌, ◌*ℤ◌, ◌≤ℤ◌, List, [], ◌∷◌}
 use Rattle.po_holds.specs.declared.exact.Digits.{Digits}
 use Rattle.po_holds.specs.declared.exact.Exact.{Exact}
 

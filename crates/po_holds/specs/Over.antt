@@ -1,7 +1,7 @@
 -- What is asked of each of two numbers. Private clauses alone cite these words.
-use Rattle.std.specs.Prelude.{ℕ, ◌^◌, ◌-◌, ℤ, pos, negsuc, neg_ℤ, ◌≡◌, ◌+ℤ◌, ◌*ℤ◌, ◌≤ℤ◌}
+use Rattle.std.specs.Prelude.{ℕ, ◌^◌, ℤ, pos, neg_ℤ, ◌≡◌, ◌+ℤ◌, ◌*ℤ◌, ◌≤ℤ◌}
 use Rattle.po_pred.specs.declared.pred.Over.{Over}
-use Rattle.po_memory.specs.Blocks.{StaysIn, IsOfWidth, half}
+use Rattle.po_memory.specs.Blocks.{StaysIn, IsOfWidth}
 use Rattle.po_holds.specs.declared.choosing.Numbers.{Numbers}
 use Rattle.po_holds.specs.declared.over.Power.{Power}
 use Rattle.po_holds.specs.declared.over.Sum.{Sum}

@@ -1,8 +1,6 @@
 -- What is asked of each of two pointers. Private clauses alone cite these words.
 use Rattle.std.specs.Prelude.{ℤ, pos, ◌⊎◌, ◌+ℤ◌, ◌≤ℤ◌, List}
 use Rattle.po_memory.specs.declared.block.Block.{Block}
-use Rattle.po_memory.specs.declared.value.Value.{Value}
-use Rattle.po_memory.specs.Values.{moved}
 use Rattle.po_memory.specs.Blocks.{AreApart, Fits, HasRoom}
 use Rattle.po_holds.specs.declared.choosing.Numbers.{Numbers}
 use Rattle.po_holds.specs.declared.choosing.Pointers.{Pointers}

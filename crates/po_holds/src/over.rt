@@ -68,10 +68,24 @@ fn is_of_width(bits: u8, sum: &Sum) -> bool
     ensures { IsTrue result ↔ IsOfWidth bits (sum_of sum.now) }
 {
     let half = power_of(bits.saturating_sub(1));
-    if is_negative(&[(sum.a, sum.w), (sum.b, sum.x), (sum.c, sum.y), (sum.d, sum.z), (half.first, -half.second), (half.more, -half.second)]) {
+    if is_negative(&[
+        (sum.a, sum.w),
+        (sum.b, sum.x),
+        (sum.c, sum.y),
+        (sum.d, sum.z),
+        (half.first, -half.second),
+        (half.more, -half.second),
+    ]) {
         return false;
     }
-    is_negative(&[(sum.a, sum.w), (sum.b, sum.x), (sum.c, sum.y), (sum.d, sum.z), (half.first, half.second), (half.more, half.second)])
+    is_negative(&[
+        (sum.a, sum.w),
+        (sum.b, sum.x),
+        (sum.c, sum.y),
+        (sum.d, sum.z),
+        (half.first, half.second),
+        (half.more, half.second),
+    ])
 }
 
 fn sums_stay(bits: u8, v: &Numbers, w: &Numbers) -> bool
@@ -79,10 +93,34 @@ fn sums_stay(bits: u8, v: &Numbers, w: &Numbers) -> bool
     requires w { AreSome w.now }
     ensures { IsTrue result ↔ EachStays over.Add bits v.now w.now }
 {
-    if !is_of_width(bits, &Sum { a: 1, w: v.base, b: 1, x: v.lo, c: 1, y: w.base, d: 1, z: w.lo }) {
+    if !is_of_width(
+        bits,
+        &Sum {
+            a: 1,
+            w: v.base,
+            b: 1,
+            x: v.lo,
+            c: 1,
+            y: w.base,
+            d: 1,
+            z: w.lo,
+        },
+    ) {
         return false;
     }
-    is_of_width(bits, &Sum { a: 1, w: v.base, b: 1, x: v.hi, c: 1, y: w.base, d: 1, z: w.hi })
+    is_of_width(
+        bits,
+        &Sum {
+            a: 1,
+            w: v.base,
+            b: 1,
+            x: v.hi,
+            c: 1,
+            y: w.base,
+            d: 1,
+            z: w.hi,
+        },
+    )
 }
 
 fn differences_stay(bits: u8, v: &Numbers, w: &Numbers) -> bool
@@ -90,17 +128,53 @@ fn differences_stay(bits: u8, v: &Numbers, w: &Numbers) -> bool
     requires w { AreSome w.now }
     ensures { IsTrue result ↔ EachStays over.Sub bits v.now w.now }
 {
-    if !is_of_width(bits, &Sum { a: 1, w: v.base, b: 1, x: v.lo, c: -1, y: w.base, d: -1, z: w.hi }) {
+    if !is_of_width(
+        bits,
+        &Sum {
+            a: 1,
+            w: v.base,
+            b: 1,
+            x: v.lo,
+            c: -1,
+            y: w.base,
+            d: -1,
+            z: w.hi,
+        },
+    ) {
         return false;
     }
-    is_of_width(bits, &Sum { a: 1, w: v.base, b: 1, x: v.hi, c: -1, y: w.base, d: -1, z: w.lo })
+    is_of_width(
+        bits,
+        &Sum {
+            a: 1,
+            w: v.base,
+            b: 1,
+            x: v.hi,
+            c: -1,
+            y: w.base,
+            d: -1,
+            z: w.lo,
+        },
+    )
 }
 
 /// Whether the product of a number of the one and a number of the other is of this width.
 fn product_stays(bits: u8, v: &Numbers, x: &i128, w: &Numbers, y: &i128) -> bool
     ensures { IsTrue result ↔ IsOfWidth bits ((v.now.base +ℤ x.now) *ℤ (w.now.base +ℤ y.now)) }
 {
-    is_of_width(bits, &Sum { a: v.base, w: w.base, b: v.base, x: *y, c: *x, y: w.base, d: *x, z: *y })
+    is_of_width(
+        bits,
+        &Sum {
+            a: v.base,
+            w: w.base,
+            b: v.base,
+            x: *y,
+            c: *x,
+            y: w.base,
+            d: *x,
+            z: *y,
+        },
+    )
 }
 
 /// Whether the products of one number with both ends of the others are of this width.
@@ -128,10 +202,34 @@ fn negations_stay(bits: u8, v: &Numbers) -> bool
     requires { AreSome v.now }
     ensures { IsTrue result ↔ EachOne v.now (λ x. IsOfWidth bits (neg_ℤ x)) }
 {
-    if !is_of_width(bits, &Sum { a: -1, w: v.base, b: -1, x: v.lo, c: 0, y: 0, d: 0, z: 0 }) {
+    if !is_of_width(
+        bits,
+        &Sum {
+            a: -1,
+            w: v.base,
+            b: -1,
+            x: v.lo,
+            c: 0,
+            y: 0,
+            d: 0,
+            z: 0,
+        },
+    ) {
         return false;
     }
-    is_of_width(bits, &Sum { a: -1, w: v.base, b: -1, x: v.hi, c: 0, y: 0, d: 0, z: 0 })
+    is_of_width(
+        bits,
+        &Sum {
+            a: -1,
+            w: v.base,
+            b: -1,
+            x: v.hi,
+            c: 0,
+            y: 0,
+            d: 0,
+            z: 0,
+        },
+    )
 }
 
 /// Whether the least number of the signed type of this width is one of these.
@@ -139,10 +237,20 @@ fn have_least(bits: u8, v: &Numbers) -> bool
     ensures { IsTrue result ↔ IsOneOf v.now (neg_ℤ (pos (half bits))) }
 {
     let half = power_of(bits.saturating_sub(1));
-    if is_negative(&[(-1, v.base), (-1, v.lo), (half.first, half.second), (half.more, half.second)]) {
+    if is_negative(&[
+        (-1, v.base),
+        (-1, v.lo),
+        (half.first, half.second),
+        (half.more, half.second),
+    ]) {
         return false;
     }
-    !is_negative(&[(1, v.base), (1, v.hi), (half.first, -half.second), (half.more, -half.second)])
+    !is_negative(&[
+        (1, v.base),
+        (1, v.hi),
+        (half.first, -half.second),
+        (half.more, -half.second),
+    ])
 }
 
 /// Whether -1 is one of these.
@@ -189,7 +297,12 @@ fn are_below(n: u8, v: &Numbers) -> bool
     ensures { IsTrue result ↔ (greatest v.now <ℤ pos (2 ^ n)) }
 {
     let power = power_of(n);
-    is_negative(&[(1, v.base), (1, v.hi), (power.first, power.second), (power.more, power.second)])
+    is_negative(&[
+        (1, v.base),
+        (1, v.hi),
+        (power.first, power.second),
+        (power.more, power.second),
+    ])
 }
 
 fn shifts_stay(bits: u8, v: &Numbers, w: &Numbers) -> bool

@@ -107,7 +107,10 @@ fn are_apart(v: &Pointers, w: &Pointers, n: &Numbers) -> bool
             Value::Number(_) => false,
             Value::Null => true,
             Value::Wild => true,
-            Value::Pointer { block: other, offset: place } => {
+            Value::Pointer {
+                block: other,
+                offset: place,
+            } => {
                 if block != other {
                     return true;
                 }
@@ -172,7 +175,10 @@ fn has_room(m: &Memory2, v: &Pointers, w: &Pointers) -> bool
             Value::Number(_) => false,
             Value::Null => true,
             Value::Wild => false,
-            Value::Pointer { block: other, offset: place } => match m.blocks.get(block as usize) {
+            Value::Pointer {
+                block: other,
+                offset: place,
+            } => match m.blocks.get(block as usize) {
                 None => false,
                 Some(c) => match m.blocks.get(other as usize) {
                     None => false,

@@ -1,12 +1,8 @@
-use Rattle.std.proofs.Common.{rules, ◌≡◌, ◌^◌, ◌≤◌, ◌<◌, ◌-◌, ◌+◌, ◌*◌, ◌↔◌, ℕ, arith, refl, sym, ap, ◌∙◌, subst, length, inl, inr, FitsSigned, to_z-of_z}
-use Rattle.std.specs.Prelude.{ℤ, pos, negsuc, neg_ℤ, ◌+ℤ◌, ◌-ℤ◌, ◌*ℤ◌, ◌≤ℤ◌, ◌<ℤ◌, ◌⊎◌, Bool, true, false, not, IsTrue, Some, None, slice_get}
+use Rattle.std.proofs.Common.{rules, ◌≡◌, ◌↔◌, arith, refl, FitsSigned, to_z-of_z}
+use Rattle.std.specs.Prelude.{pos, neg_ℤ, ◌+ℤ◌, ◌*ℤ◌, ◌<ℤ◌, true, false, IsTrue}
 use Rattle.std.specs.Int.{w128}
-use Rattle.std.specs.Option.{option_copied}
-use Rattle.std.proofs.lemmas.Int.{ints, by_lt_z}
-use Rattle.po_memory.specs.Blocks.{IsOfWidth, half}
-use Rattle.po_holds.specs.Choosing.{IsOneOf, AreSome, least, greatest}
-use Rattle.po_holds.proofs.Telling.{not_tells, first_fails, second_tells, first_met, then_tells}
-use Rattle.po_holds.proofs.Sums.{at_least, tells_not}
+use Rattle.std.proofs.lemmas.Int.{ints}
+use Rattle.po_holds.specs.Choosing.{least, greatest}
 use Rattle.std.specs.Int.{w64}
 use Rattle.po_holds.specs.Asking.{IsLeast, IsGreatest}
 use Rattle.po_memory.specs.Blocks.{HaveValues}
@@ -51,5 +47,5 @@ returns c =
     let sum : IsTrue c.is_negative.result ↔ ((c.args.factor *ℤ c.args.lo.now.base +ℤ (c.args.factor *ℤ c.least_end-low.result +ℤ (neg_ℤ c.args.factor *ℤ c.args.hi.now.base +ℤ (neg_ℤ c.args.factor *ℤ c.greatest_end-high.result +ℤ pos 0)))) <ℤ pos 0) = simp (to_z-of_z, neg_is) at c.is_negative.ensures in
     let yes : c.is_negative.result ≡ true = search rules in
     let tells = less_tells c.args.factor c.args.lo.now c.args.hi.now c.least_end-low.result c.greatest_end-high.result c.is_negative.result sum in
-    let values : IsTrue c.have_values.result ↔ HaveValues (least c.args.at.now +ℤ c.args.factor *ℤ (c.args.lo.now.base +ℤ c.least_end-low.result)) (greatest c.args.at.now +ℤ c.args.factor *ℤ (c.args.hi.now.base +ℤ c.greatest_end-high.result)) c.args.c.now.bytes = simp to_z-of_z at c.have_values.ensures in
+    let values : IsTrue c.have_values.result ↔ HaveValues (least c.args.at.now +ℤ c.args.factor *ℤ (c.args.lo.now.base +ℤ c.least_end-low.result)) (greatest c.args.at.now +ℤ c.args.factor *ℤ (c.args.hi.now.base +ℤ c.greatest_end-high.result)) c.args.c.now.bytes = simp (to_z-of_z, c.as_slice.ensures) at c.have_values.ensures in
     through values (all_filled c.args.factor c.args.at.now c.args.lo.now c.args.hi.now c.args.c.now c.least_end-low.result c.greatest_end-high.result c.requires.at low_is high_is (tells.0 yes))

@@ -1,4 +1,4 @@
-use Rattle.std.proofs.Common.{ℕ, ◌<◌, ◌≡◌}
+use Rattle.std.proofs.Common.{ℕ, ◌<◌}
 use Rattle.std.specs.Prelude.{pos, ◌≤ℤ◌, ◌<ℤ◌, ◌≢◌, Some, slice_get}
 use Rattle.po_memory.specs.declared.value.Byte.TheVariants as byte
 use Rattle.po_holds.specs.Asking.{place_of}

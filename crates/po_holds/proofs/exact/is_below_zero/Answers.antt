@@ -1,5 +1,5 @@
-use Rattle.std.proofs.Common.{rules, ◌≡◌, ◌^◌, ◌≤◌, ◌-◌, ◌+◌, ◌*◌, ◌↔◌, ℕ, arith, refl, sym, ap, ◌∙◌, subst, length, drop, FitsSigned, to_z-of_z}
-use Rattle.std.specs.Prelude.{ℤ, pos, ◌+ℤ◌, ◌-ℤ◌, ◌*ℤ◌, ◌≤ℤ◌, ◌<ℤ◌, Some, slice_get}
+use Rattle.std.proofs.Common.{rules, ◌≡◌, arith, FitsSigned, to_z-of_z}
+use Rattle.std.specs.Prelude.{◌+ℤ◌}
 use Rattle.std.specs.Int.{int_shr, w128}
 use Rattle.std.proofs.lemmas.Int.{ints}
 use Rattle.po_holds.proofs.Sums.{sign_of}

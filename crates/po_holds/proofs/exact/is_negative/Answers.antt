@@ -1,7 +1,6 @@
-use Rattle.std.proofs.Common.{rules, ◌≡◌, ◌^◌, ◌≤◌, ◌-◌, ◌+◌, ◌*◌, ◌↔◌, ℕ, arith, refl, sym, ap, ◌∙◌, subst, length, drop, suc, get_or, FitsSigned, to_z-of_z}
-use Rattle.std.specs.Prelude.{ℤ, pos, ◌+ℤ◌, ◌-ℤ◌, ◌*ℤ◌, ◌≤ℤ◌, ◌<ℤ◌, Some, IsTrue, slice_get}
-use Rattle.std.specs.Int.{int_shr, w128}
-use Rattle.std.proofs.lemmas.Int.{ints}
+use Rattle.std.proofs.Common.{rules, ◌≡◌, ◌-◌, ◌+◌, ◌↔◌, arith, sym, ap, ◌∙◌, subst, length, drop, suc, get_or, FitsSigned, to_z-of_z}
+use Rattle.std.specs.Prelude.{pos, ◌<ℤ◌, IsTrue}
+use Rattle.std.specs.Int.{w128}
 use Rattle.std.proofs.lemmas.Option.{slice_get-get_or}
 use Rattle.po_holds.specs.Exact.{AreAfter, total, whole, number}
 use Rattle.po_holds.proofs.Sums.{after_more, total_more, turned}

@@ -1,8 +1,6 @@
-use Rattle.std.proofs.Common.{rules, ◌≡◌, ◌^◌, ◌≤◌, ◌-◌, ◌+◌, ◌*◌, ◌↔◌, ℕ, arith, refl, sym, ap, ◌∙◌, subst, length, drop, FitsSigned, to_z-of_z}
-use Rattle.std.specs.Prelude.{ℤ, pos, ◌+ℤ◌, ◌-ℤ◌, ◌*ℤ◌, ◌≤ℤ◌, ◌<ℤ◌, Some, slice_get}
-use Rattle.std.specs.Int.{int_shr, w128}
+use Rattle.std.proofs.Common.{arith, to_z-of_z}
+use Rattle.std.specs.Prelude.{◌+ℤ◌}
 use Rattle.std.proofs.lemmas.Int.{ints}
-use Rattle.po_holds.specs.Exact.{AreAfter}
 use Rattle.po_holds.proofs.Sums.{added, more_after, one_up, two_up, three_up, fits_sum, fits_up, fits_after}
 use Rattle.po_holds.proofs.exact.plus.Goals as goal
 

@@ -1,19 +1,12 @@
-use Rattle.std.proofs.Common.{rules, ◌≡◌, ◌^◌, ◌≤◌, ◌<◌, ◌-◌, ◌+◌, ◌*◌, ◌↔◌, ℕ, arith, refl, sym, ap, ◌∙◌, subst, length, inl, inr, FitsSigned, to_z-of_z}
-use Rattle.std.specs.Prelude.{ℤ, pos, negsuc, neg_ℤ, ◌+ℤ◌, ◌-ℤ◌, ◌*ℤ◌, ◌≤ℤ◌, ◌<ℤ◌, ◌⊎◌, Bool, not, IsTrue, Some, None, slice_get}
-use Rattle.std.specs.Int.{w128}
-use Rattle.std.specs.Option.{option_copied}
-use Rattle.std.proofs.lemmas.Int.{ints, by_lt_z}
-use Rattle.po_memory.specs.Blocks.{IsOfWidth, half}
-use Rattle.po_holds.specs.Choosing.{IsOneOf, AreSome, least, greatest}
-use Rattle.po_holds.proofs.Telling.{not_tells, first_fails, second_tells, first_met, then_tells}
-use Rattle.po_holds.proofs.Sums.{at_least, tells_not}
-use Rattle.po_memory.specs.Values.{EachNumber, EachPointer, EachSecond}
-use Rattle.po_memory.specs.Blocks.{IntoOne, AreApart, HasRoom, Spans, IsFilled, OnPointer, StaysIn}
+use Rattle.std.proofs.Common.{rules, ◌↔◌, FitsSigned, to_z-of_z}
+use Rattle.std.specs.Prelude.{ℤ, ◌*ℤ◌, IsTrue}
+use Rattle.std.specs.Int.{w64}
+use Rattle.po_holds.specs.Choosing.{IsOneOf, EachMoved}
+use Rattle.po_memory.specs.Values.{EachNumber}
+use Rattle.po_memory.specs.Blocks.{Spans, OnPointer}
 use Rattle.po_holds.proofs.Chosen as chosen
 use Rattle.po_holds.proofs.Chosen.{through}
 use Rattle.po_holds.proofs.Asked.{for_all_numbers}
-use Rattle.po_holds.specs.declared.asking.Ask.TheVariants as ask
-use Rattle.po_holds.specs.Asking.{Asks}
 use Rattle.po_holds.proofs.holding.span.Goals as goal
 
 pub returns-in-Err-numbers_of : goal.returns-in-Err-numbers_of
@@ -26,4 +19,6 @@ returns-in-Err-numbers_of-2 c =
 
 pub returns-in-Ok-numbers_of-2 : goal.returns-in-Ok-numbers_of-2
 returns-in-Ok-numbers_of-2 c =
-    through c.on_pointers.ensures (chosen.pointer_and_numbers c.args.f.now c.args.p.now c.args.lo.now c.args.hi.now (λ v l h. OnPointer (Spans (c.args.factor *ℤ l) (c.args.factor *ℤ h)) c.args.m.now.blocks v) _ c.in-Ok.r c.in-Ok-numbers_of.lo c.in-Ok-numbers_of-2.hi c.in-Ok.ensures c.in-Ok-numbers_of.ensures c.in-Ok-numbers_of-2.ensures (λ v. for_all_numbers (λ l h. Spans (c.args.factor *ℤ l) (c.args.factor *ℤ h)) c.in-Ok-numbers_of.lo c.in-Ok-numbers_of-2.hi c.in-Ok-numbers_of.ensures.some c.in-Ok-numbers_of-2.ensures.some c.args.m.now.blocks v))
+    let narrow : FitsSigned w64 c.args.factor = search rules in
+    let tells : IsTrue c.on_pointers.result ↔ EachMoved c.in-Ok.r (λ v. OnPointer (λ o d. (i j : ℤ) → IsOneOf c.in-Ok-numbers_of.lo i → IsOneOf c.in-Ok-numbers_of-2.hi j → Spans (c.args.factor *ℤ i) (c.args.factor *ℤ j) o d) c.args.m.now.blocks v) = simp to_z-of_z at c.on_pointers.ensures in
+    through tells (chosen.pointer_and_numbers c.args.f.now c.args.p.now c.args.lo.now c.args.hi.now (λ v l h. OnPointer (Spans (c.args.factor *ℤ l) (c.args.factor *ℤ h)) c.args.m.now.blocks v) _ c.in-Ok.r c.in-Ok-numbers_of.lo c.in-Ok-numbers_of-2.hi c.in-Ok.ensures c.in-Ok-numbers_of.ensures c.in-Ok-numbers_of-2.ensures (λ v. for_all_numbers (λ l h. Spans (c.args.factor *ℤ l) (c.args.factor *ℤ h)) c.in-Ok-numbers_of.lo c.in-Ok-numbers_of-2.hi c.in-Ok-numbers_of.ensures.some c.in-Ok-numbers_of-2.ensures.some c.args.m.now.blocks v))

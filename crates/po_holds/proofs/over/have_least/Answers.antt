@@ -1,12 +1,12 @@
-use Rattle.std.proofs.Common.{rules, ◌≡◌, ◌^◌, ◌≤◌, ◌<◌, ◌-◌, ◌+◌, ◌*◌, ◌↔◌, ℕ, arith, refl, sym, ap, ◌∙◌, subst, length, inl, inr, FitsSigned, to_z-of_z}
-use Rattle.std.specs.Prelude.{ℤ, pos, negsuc, neg_ℤ, ◌+ℤ◌, ◌-ℤ◌, ◌*ℤ◌, ◌≤ℤ◌, ◌<ℤ◌, ◌⊎◌, Bool, not, IsTrue, Some, None, slice_get}
+use Rattle.std.proofs.Common.{rules, ◌≡◌, ◌-◌, ◌↔◌, arith, subst, FitsSigned, to_z-of_z}
+use Rattle.std.specs.Prelude.{pos, negsuc, neg_ℤ, ◌+ℤ◌, ◌*ℤ◌, ◌≤ℤ◌, ◌<ℤ◌, not, IsTrue}
 use Rattle.std.specs.Int.{w128}
-use Rattle.std.specs.Option.{option_copied}
-use Rattle.std.proofs.lemmas.Int.{ints, by_lt_z}
-use Rattle.po_memory.specs.Blocks.{IsOfWidth, half}
-use Rattle.po_holds.specs.Choosing.{IsOneOf, AreSome, least, greatest}
-use Rattle.po_holds.proofs.Telling.{not_tells, first_fails, second_tells, first_met, then_tells}
-use Rattle.po_holds.proofs.Sums.{at_least, tells_not}
+use Rattle.std.proofs.lemmas.Int.{ints}
+use Rattle.po_memory.specs.Blocks.{half}
+use Rattle.po_holds.specs.Choosing.{least, greatest}
+use Rattle.po_holds.specs.Over.{IsPower}
+use Rattle.po_holds.proofs.Telling.{first_met, then_tells}
+use Rattle.po_holds.proofs.Sums.{tells_not}
 use Rattle.po_holds.proofs.Products.{times_neg}
 use Rattle.po_holds.proofs.over.have_least.Goals as goal
 
@@ -17,7 +17,8 @@ returns-then-is_negative c =
     let fits_p0 : FitsSigned w128 c.power_of-half.result.first = search rules in
     let fits_p1 : FitsSigned w128 c.power_of-half.result.more = search rules in
     let fits_p2 : FitsSigned w128 c.power_of-half.result.second = search rules in
-    let power = c.power_of-half.ensures in
+    let count : c.saturating_sub.result ≡ c.args.bits - 1 = omega (arith, c.saturating_sub.ensures) in
+    let power : IsPower (c.args.bits - 1) c.power_of-half.result = subst (λ n. IsPower n c.power_of-half.result) count c.power_of-half.ensures in
     let fits_neg : FitsSigned w128 (pos 0 +ℤ neg_ℤ c.power_of-half.result.second) = omega (arith, ints, power.least, power.greatest) in
     let fits_turned : FitsSigned w128 (neg_ℤ c.power_of-half.result.second) = omega (arith, ints, power.least, power.greatest) in
     let neg_is : pos 0 +ℤ neg_ℤ c.power_of-half.result.second ≡ neg_ℤ c.power_of-half.result.second = omega (arith, ints) in
@@ -34,7 +35,8 @@ returns c =
     let fits_p0 : FitsSigned w128 c.power_of-half.result.first = search rules in
     let fits_p1 : FitsSigned w128 c.power_of-half.result.more = search rules in
     let fits_p2 : FitsSigned w128 c.power_of-half.result.second = search rules in
-    let power = c.power_of-half.ensures in
+    let count : c.saturating_sub.result ≡ c.args.bits - 1 = omega (arith, c.saturating_sub.ensures) in
+    let power : IsPower (c.args.bits - 1) c.power_of-half.result = subst (λ n. IsPower n c.power_of-half.result) count c.power_of-half.ensures in
     let fits_neg : FitsSigned w128 (pos 0 +ℤ neg_ℤ c.power_of-half.result.second) = omega (arith, ints, power.least, power.greatest) in
     let fits_turned : FitsSigned w128 (neg_ℤ c.power_of-half.result.second) = omega (arith, ints, power.least, power.greatest) in
     let neg_is : pos 0 +ℤ neg_ℤ c.power_of-half.result.second ≡ neg_ℤ c.power_of-half.result.second = omega (arith, ints) in

@@ -1,12 +1,10 @@
-use Rattle.std.proofs.Common.{rules, ◌≡◌, ◌^◌, ◌≤◌, ◌<◌, ◌-◌, ◌+◌, ◌*◌, ◌↔◌, ℕ, arith, refl, sym, ap, ◌∙◌, subst, length, inl, inr, FitsSigned, to_z-of_z}
-use Rattle.std.specs.Prelude.{ℤ, pos, negsuc, neg_ℤ, ◌+ℤ◌, ◌-ℤ◌, ◌*ℤ◌, ◌≤ℤ◌, ◌<ℤ◌, ◌⊎◌, Bool, not, IsTrue, Some, None, slice_get}
+use Rattle.std.proofs.Common.{rules, ◌↔◌, arith, FitsSigned, to_z-of_z}
+use Rattle.std.specs.Prelude.{pos, negsuc, ◌+ℤ◌, ◌*ℤ◌, ◌≤ℤ◌, ◌<ℤ◌, not, IsTrue}
 use Rattle.std.specs.Int.{w128}
-use Rattle.std.specs.Option.{option_copied}
-use Rattle.std.proofs.lemmas.Int.{ints, by_lt_z}
-use Rattle.po_memory.specs.Blocks.{IsOfWidth, half}
-use Rattle.po_holds.specs.Choosing.{IsOneOf, AreSome, least, greatest}
-use Rattle.po_holds.proofs.Telling.{not_tells, first_fails, second_tells, first_met, then_tells}
-use Rattle.po_holds.proofs.Sums.{at_least, tells_not}
+use Rattle.std.proofs.lemmas.Int.{ints}
+use Rattle.po_holds.specs.Choosing.{least, greatest}
+use Rattle.po_holds.proofs.Telling.{first_met, then_tells}
+use Rattle.po_holds.proofs.Sums.{tells_not}
 use Rattle.po_holds.proofs.over.have_minus_one.Goals as goal
 
 pub returns-then-is_negative : goal.returns-then-is_negative

@@ -1,4 +1,3 @@
-use Rattle.std.proofs.Common.{rules, arith}
 use Rattle.po_holds.proofs.Widths.{one_shifted}
 use Rattle.po_holds.proofs.over.two_to.Goals as goal
 

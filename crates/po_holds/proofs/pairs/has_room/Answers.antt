@@ -1,31 +1,23 @@
-use Rattle.std.proofs.Common.{rules, ◌≡◌, ◌^◌, ◌≤◌, ◌<◌, ◌-◌, ◌+◌, ◌*◌, ◌↔◌, ℕ, arith, refl, sym, ap, ◌∙◌, subst, length, inl, inr, FitsSigned, to_z-of_z}
-use Rattle.std.specs.Prelude.{ℤ, pos, negsuc, neg_ℤ, ◌+ℤ◌, ◌-ℤ◌, ◌*ℤ◌, ◌≤ℤ◌, ◌<ℤ◌, ◌⊎◌, Bool, not, IsTrue, Some, None, slice_get}
+use Rattle.std.proofs.Common.{rules, ◌≡◌, sym, ap, ◌∙◌, inl, inr, FitsSigned, to_z-of_z}
 use Rattle.std.specs.Int.{w128}
 use Rattle.std.specs.Option.{option_copied}
-use Rattle.std.proofs.lemmas.Int.{ints, by_lt_z}
-use Rattle.po_memory.specs.Blocks.{IsOfWidth, half}
-use Rattle.po_holds.specs.Choosing.{IsOneOf, AreSome, least, greatest}
-use Rattle.po_holds.proofs.Telling.{not_tells, first_fails, second_tells, first_met, then_tells}
-use Rattle.po_holds.proofs.Sums.{at_least, tells_not}
-use Rattle.po_memory.specs.Blocks.{HasRoom, AreApart}
-use Rattle.po_memory.specs.declared.value.Value.TheVariants.{Number, Null, Pointer, Wild}
-use Rattle.po_holds.specs.declared.choosing.Numbers.{Numbers}
-use Rattle.po_holds.specs.Pairs.{EachFits, EachApart}
+use Rattle.po_memory.specs.Blocks.{HasRoom}
+use Rattle.po_memory.specs.declared.value.Value.TheVariants.{Number, Pointer, Wild}
 use Rattle.po_holds.proofs.Chosen.{through}
 use Rattle.po_holds.proofs.Both as both
 use Rattle.po_holds.proofs.pairs.has_room.Goals as goal
 
 pub returns-in-Number : goal.returns-in-Number
 returns-in-Number c =
-    through c.is_null.ensures (both.of_null (HasRoom c.args.m.now.blocks) c.args.v.now c.args.w.now (Number _) c.in-Number.is c.requires.v c.requires.w (both.number_room c.args.m.now.blocks _))
+    through c.is_null.ensures (both.of_null (HasRoom c.args.m.now.blocks) c.args.v.now c.args.w.now (Number c.in-Number.field-0) c.in-Number.is c.requires.v c.requires.w (both.number_room c.args.m.now.blocks c.in-Number.field-0))
 
 pub returns-in-Wild : goal.returns-in-Wild
 returns-in-Wild c =
-    through c.is_null.ensures (both.of_null (HasRoom c.args.m.now.blocks) c.args.v.now c.args.w.now Wild c.in-Wild.is c.requires.v c.requires.w (both.wild_room c.args.m.now.blocks))
+    through c.is_null-in-Wild.ensures (both.of_null (HasRoom c.args.m.now.blocks) c.args.v.now c.args.w.now Wild c.in-Wild.is c.requires.v c.requires.w (both.wild_room c.args.m.now.blocks))
 
 pub returns-in-Number-base : goal.returns-in-Number-base
 returns-in-Number-base c =
-    (λ h. absurd (cc), λ h. absurd (both.not_of_all c.args.v.now c.args.w.now c.requires.v c.requires.w (HasRoom c.args.m.now.blocks) (Pointer c.in-Pointer.block c.in-Pointer.offset) (Number _) c.in-Pointer.is c.in-Number-base.is (λ n k h. h) h))
+    (λ h. absurd (cc), λ h. absurd (both.not_of_all c.args.v.now c.args.w.now c.requires.v c.requires.w (HasRoom c.args.m.now.blocks) (Pointer c.in-Pointer.block c.in-Pointer.offset) (Number c.in-Number-base.field-0) c.in-Pointer.is c.in-Number-base.is (λ n k h. h) h))
 
 pub returns-in-Wild-base : goal.returns-in-Wild-base
 returns-in-Wild-base c =
@@ -46,5 +38,5 @@ returns-in-Some-get c =
     let fits_offset : FitsSigned w128 c.in-Pointer.offset = search rules in
     let fits_place : FitsSigned w128 c.in-Pointer-base.place = search rules in
     let p_is : (c.offsets.result.base ≡ c.in-Pointer.offset) × (c.offsets.result.lo ≡ c.args.v.now.lo) × (c.offsets.result.hi ≡ c.args.v.now.hi) = simp to_z-of_z at c.offsets.ensures in
-    let q_is : (c.offsets-2.result.base ≡ c.in-Pointer-base.place) × (c.offsets-2.result.lo ≡ c.args.w.now.lo) × (c.offsets-2.result.hi ≡ c.args.w.now.hi) = simp to_z-of_z at c.offsets-2.ensures in
-    through c.fits.ensures (both.room_in c.args.m.now.blocks c.args.v.now c.args.w.now c.offsets.result c.offsets-2.result c.in-Pointer.block c.in-Pointer.offset c.in-Pointer-base.other c.in-Pointer-base.place c.in-Some.c.now c.in-Some-get.d.now c.in-Pointer.is c.in-Pointer-base.is p_is q_is c_there d_there)
+    let q_is : (c.offsets-in-Some-get.result.base ≡ c.in-Pointer-base.place) × (c.offsets-in-Some-get.result.lo ≡ c.args.w.now.lo) × (c.offsets-in-Some-get.result.hi ≡ c.args.w.now.hi) = simp to_z-of_z at c.offsets-in-Some-get.ensures in
+    through c.fits.ensures (both.room_in c.args.m.now.blocks c.args.v.now c.args.w.now c.offsets.result c.offsets-in-Some-get.result c.in-Pointer.block c.in-Pointer.offset c.in-Pointer-base.other c.in-Pointer-base.place c.in-Some.c.now c.in-Some-get.d.now c.in-Pointer.is c.in-Pointer-base.is p_is q_is c_there d_there)

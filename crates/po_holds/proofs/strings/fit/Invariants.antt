@@ -1,4 +1,4 @@
-use Rattle.std.proofs.Common.{ℕ, ◌≤◌, ◌-◌, length}
+use Rattle.std.proofs.Common.{ℕ, ◌≤◌, length}
 use Rattle.po_holds.specs.Asking.{FitsIn, IsEndOf}
 use Rattle.po_holds.proofs.strings.fit.Given as goal
 
