@@ -1,13 +1,12 @@
 use crate::few::answer_few;
 use crate::words::{op_of, type_of};
 use po_arith::Interval;
-use po_base::{Memory, SharedList, UnOp};
+use po_base::{Memory, OrdList, SharedList, UnOp};
 use po_interval::{
     Members, Thresholds, bin_interval, conv_interval, join_members, members_within, round,
     un_interval,
 };
 use std::alloc::{AllocError, Global};
-use std::collections::BTreeSet;
 use std::io;
 
 /// The end that a word names, where `*` is none.
@@ -71,10 +70,10 @@ pub(crate) fn members(alloc: Global, words: &[&str]) -> Result<Members, Memory> 
 
 /// The thresholds that words list.
 fn thresholds(alloc: Global, words: &[&str]) -> Result<Thresholds, Memory> {
-    let mut coarse = BTreeSet::new(alloc);
+    let mut coarse = OrdList::new(alloc);
     for word in words {
         if let Some(v) = end(word) {
-            coarse.insert(v).map_err(AllocError::from)?;
+            coarse.insert(v)?;
         }
     }
     Ok(Thresholds { coarse })

@@ -1,4 +1,4 @@
-ghost use Rattle.po_gen.specs.IntTypes.{AreTypesOfTarget};
+ghost use Rattle.po_ir.specs.IntTypes.{AreTypesOfTarget};
 
 use crate::building::{has_types, int, project, registers};
 use crate::freeing::Freeing;

@@ -1,7 +1,7 @@
 ghost use Rattle.std.specs.Prelude.{◌≡◌, true, All, IfOk, OnOk, [], ◌∷◌};
 ghost use Rattle.po_ir.specs.declared.graph.Reg.{Reg as Register};
 ghost use Rattle.po_arith.specs.Types.{IsIntType};
-ghost use Rattle.po_gen.specs.IntTypes.{IsTypeOfTarget, types_in, HasTypesOfTarget, AreTypesOfTarget};
+ghost use Rattle.po_ir.specs.IntTypes.{IsTypeOfTarget, types_in, HasTypesOfTarget, AreTypesOfTarget};
 
 use po_arith::{IntType, Target};
 use po_base::{FileNo, List, Memory, Spot, Text};

@@ -96,7 +96,7 @@ IsProperState f (At regs slots heap freed wrote) =
 -- 0 and both ends of the type of each register are among the coarse thresholds
 abbrev pub HasEndsOf : Shape → Option IntType → Type 0
 HasEndsOf f None = Unit {0}
-HasEndsOf f (Some t) = IsAmong (least t) f.thresholds.coarse.keys × IsAmong (greatest t) f.thresholds.coarse.keys
+HasEndsOf f (Some t) = IsAmong (least t) f.thresholds.coarse × IsAmong (greatest t) f.thresholds.coarse
 
 abbrev pub HasEnds : Shape → Type 0
-HasEnds f = IsAmong (pos 0) f.thresholds.coarse.keys × AllByRecursion (HasEndsOf f) f.types
+HasEnds f = IsAmong (pos 0) f.thresholds.coarse × AllByRecursion (HasEndsOf f) f.types

@@ -55,7 +55,7 @@ fine_among w up under = among_numbers least_fine 131073 w up (omega (arith, ints
 
 -- all thresholds of a function
 abbrev pub grid : Shape → List ℤ
-grid f = f.thresholds.coarse.keys ++ fine_numbers
+grid f = f.thresholds.coarse ++ fine_numbers
 
 in_first : (v : ℤ) (xs ys : List ℤ) → IsAmong v xs → IsAmong v (xs ++ ys)
 in_first v [] ys here = absurd here
@@ -67,8 +67,8 @@ in_second v [] ys here = here
 in_second v (x ∷ xs) ys here = inr (in_second v xs ys here)
 
 in_grid : (f : Shape) (v : ℤ) → IsThreshold f.thresholds false v → IsAmong v (grid f)
-in_grid f v (inl coarse) = in_first v f.thresholds.coarse.keys fine_numbers coarse
-in_grid f v (inr fine) = in_second v f.thresholds.coarse.keys fine_numbers (fine_among v fine.1 fine.2)
+in_grid f v (inl coarse) = in_first v f.thresholds.coarse fine_numbers coarse
+in_grid f v (inr fine) = in_second v f.thresholds.coarse fine_numbers (fine_among v fine.1 fine.2)
 
 end_in_grid : (f : Shape) (a : Option ℤ) → IsRoundedEnd f a → IfThere (λ x. IsAmong x (grid f)) a
 end_in_grid f None h = tt

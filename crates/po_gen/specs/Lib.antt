@@ -1,4 +1,3 @@
-pub mod IntTypes
 pub mod Reads
 pub mod Asks
 pub mod Gen

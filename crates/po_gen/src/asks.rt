@@ -1,7 +1,7 @@
 ghost use Rattle.std.specs.Prelude.{◌≡◌, All, IfOk};
 ghost use Rattle.po_ir.specs.declared.graph.Reg.{Reg as Register};
 ghost use Rattle.po_gen.specs.Asks.{computation as computation_asks, test as test_asks, call as call_asks, why_never as why_never_of, asks as asks_of, place as operand_place};
-ghost use Rattle.po_gen.specs.IntTypes.{IsTypeOfTarget, types_in};
+ghost use Rattle.po_ir.specs.IntTypes.{IsTypeOfTarget, types_in};
 
 use crate::conversions::conversion;
 use crate::library::Library;

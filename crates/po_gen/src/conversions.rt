@@ -2,7 +2,7 @@ ghost use Rattle.std.specs.Prelude.{◌≡◌, All, IfOk};
 ghost use Rattle.po_arith.specs.Types.{IsIntType};
 ghost use Rattle.po_ir.specs.declared.graph.Reg.{Reg as Register};
 ghost use Rattle.po_gen.specs.Asks.{is_of_type as is_number_of_type, keeps_type as keeps_every_value, keeps as keeps_operand, in_type as lies_in_type, conversion as conversion_asks};
-ghost use Rattle.po_gen.specs.IntTypes.{IsTypeOfTarget};
+ghost use Rattle.po_ir.specs.IntTypes.{IsTypeOfTarget};
 
 use crate::places::place;
 use po_arith::{IntType, limits};

@@ -132,25 +132,25 @@ least_like : (P Q : ℤ → Type 0) (v : ℤ) (end : Option ℤ) → ((w : ℤ) 
 least_like P Q v None one other is = λ w kind up. is w (other w kind) up
 least_like P Q v (Some x) one other is = (one x is.0, is.1, λ w kind up. is.2 w (other w kind) up)
 
-coarse_only : (th : Thresholds) (w : ℤ) → IsThreshold th true w → IsAmong w th.coarse.keys
+coarse_only : (th : Thresholds) (w : ℤ) → IsThreshold th true w → IsAmong w th.coarse
 coarse_only th w (inl coarse) = coarse
 coarse_only th w (inr fine) = absurd (let wrong = fine.0 in cc)
 
-either : (th : Thresholds) (w : ℤ) → IsFine w ⊎ IsAmong w th.coarse.keys → IsThreshold th false w
+either : (th : Thresholds) (w : ℤ) → IsFine w ⊎ IsAmong w th.coarse → IsThreshold th false w
 either th w (inl fine) = inr (refl, fine.0, fine.1)
 either th w (inr coarse) = inl coarse
 
-one_of : (th : Thresholds) (w : ℤ) → IsThreshold th false w → IsFine w ⊎ IsAmong w th.coarse.keys
+one_of : (th : Thresholds) (w : ℤ) → IsThreshold th false w → IsFine w ⊎ IsAmong w th.coarse
 one_of th w (inl coarse) = inr coarse
 one_of th w (inr fine) = inl (fine.1, fine.2)
 
 pub down_is : (th : Thresholds) (head : Bool) (v : ℤ) → IsGreatest (IsThreshold th head) v (round_down th head v)
-down_is th true v = greatest_like _ _ v (greatest_to th.coarse.keys v) (λ w coarse. inl coarse) (coarse_only th) (greatest_is th.coarse.keys v)
-down_is th false v = greatest_like _ _ v (greater_of (fine_to v) (greatest_to th.coarse.keys v)) (either th) (one_of th) (greatest_of_both IsFine (λ w. IsAmong w th.coarse.keys) v (fine_to v) (greatest_to th.coarse.keys v) (fine_down v) (greatest_is th.coarse.keys v))
+down_is th true v = greatest_like _ _ v (greatest_to th.coarse v) (λ w coarse. inl coarse) (coarse_only th) (greatest_is th.coarse v)
+down_is th false v = greatest_like _ _ v (greater_of (fine_to v) (greatest_to th.coarse v)) (either th) (one_of th) (greatest_of_both IsFine (λ w. IsAmong w th.coarse) v (fine_to v) (greatest_to th.coarse v) (fine_down v) (greatest_is th.coarse v))
 
 pub up_is : (th : Thresholds) (head : Bool) (v : ℤ) → IsLeast (IsThreshold th head) v (round_up th head v)
-up_is th true v = least_like _ _ v (least_from th.coarse.keys v) (λ w coarse. inl coarse) (coarse_only th) (least_is th.coarse.keys v)
-up_is th false v = least_like _ _ v (lesser_of (fine_from v) (least_from th.coarse.keys v)) (either th) (one_of th) (least_of_both IsFine (λ w. IsAmong w th.coarse.keys) v (fine_from v) (least_from th.coarse.keys v) (fine_up v) (least_is th.coarse.keys v))
+up_is th true v = least_like _ _ v (least_from th.coarse v) (λ w coarse. inl coarse) (coarse_only th) (least_is th.coarse v)
+up_is th false v = least_like _ _ v (lesser_of (fine_from v) (least_from th.coarse v)) (either th) (one_of th) (least_of_both IsFine (λ w. IsAmong w th.coarse) v (fine_from v) (least_from th.coarse v) (fine_up v) (least_is th.coarse v))
 
 nearest_down : (th : Thresholds) (head : Bool) (v : ℤ) (end : Option ℤ) → IsGreatest (IsThreshold th head) v end → IsNearestDown th head v end
 nearest_down th head v None is = is

@@ -6,10 +6,10 @@ use Rattle.std.specs.List.{list_any}
 use Rattle.std.specs.Ordering.{int_cmp, is_gt, is_lt, MatchOrdering}
 use Rattle.std.specs.Cmp.{int_ranks}
 use Rattle.std.specs.BTreeMap.{is_at}
-use Rattle.std.specs.BTreeSet.{BTreeSet, IsKeyRangeOf}
 use Rattle.std.proofs.lemmas.Int.{ints}
-use Rattle.std.proofs.lemmas.Bool.{or_cases, or_left, or_right, both_ways}
+use Rattle.std.proofs.lemmas.Bool.{or_cases, or_left, or_right}
 use Rattle.std.proofs.lemmas.Bool.Decides.{Decides-int_eq}
+use Rattle.po_base.specs.Between.{IsBetween}
 use Rattle.po_interval.specs.Sets.{IsAmong}
 use Rattle.po_interval.specs.Rounding.{greatest_to, least_from}
 use Rattle.po_interval.proofs.Nearest.{IsGreatest, IsLeast, greatest_is, least_is}
@@ -56,41 +56,41 @@ one_least P v (Some x) None first second = absurd (second x first.0 first.1)
 one_least P v (Some x) (Some y) first second = let down = second.2 x first.0 first.1 in let up = first.2 y second.0 second.1 in let same : x ≡ y = omega (arith, ints) in ap Some same
 
 -- the last one up to v
-pub last_found : (s : BTreeSet ℤ) (v x : ℤ) (r t : List ℤ) → IsKeyRangeOf int_cmp Unbounded (Included v) s r → r ≡ t ++ x ∷ [] → Some x ≡ greatest_to s.keys v
+pub last_found : (s : List ℤ) (v x : ℤ) (r t : List ℤ) → IsBetween int_cmp Unbounded (Included v) s r → r ≡ t ++ x ∷ [] → Some x ≡ greatest_to s v
 last_found s v x r t is last =
     let here = is.3 x t last in
-    one_greatest (λ w. IsAmong w s.keys) v (Some x) (greatest_to s.keys v) (
-      among s.keys x here.1,
+    one_greatest (λ w. IsAmong w s) v (Some x) (greatest_to s v) (
+      among s x here.1,
       not_above x v (int_cmp x v) (int_ranks x v) here.0.1,
-      λ w kind down. not_below x w (int_cmp x w) (int_ranks x w) (is.4 x t last w (tt, since_not_above w v (int_cmp w v) (int_ranks w v) down) (there s.keys w kind)),
+      λ w kind down. not_below x w (int_cmp x w) (int_ranks x w) (is.4 x t last w ((tt, since_not_above w v (int_cmp w v) (int_ranks w v) down), there s w kind)),
     )
-    (greatest_is s.keys v)
+    (greatest_is s v)
 
-pub none_up_to : (s : BTreeSet ℤ) (v : ℤ) (r : List ℤ) → IsKeyRangeOf int_cmp Unbounded (Included v) s r → r ≡ [] → None ≡ greatest_to s.keys v
+pub none_up_to : (s : List ℤ) (v : ℤ) (r : List ℤ) → IsBetween int_cmp Unbounded (Included v) s r → r ≡ [] → None ≡ greatest_to s v
 none_up_to s v r is empty =
-    one_greatest (λ w. IsAmong w s.keys) v None (greatest_to s.keys v)
-    (λ w kind down. both_ways _ (is.5 empty w (tt, since_not_above w v (int_cmp w v) (int_ranks w v) down)) (there s.keys w kind))
-    (greatest_is s.keys v)
+    one_greatest (λ w. IsAmong w s) v None (greatest_to s v)
+    (λ w kind down. is.5 empty w ((tt, since_not_above w v (int_cmp w v) (int_ranks w v) down), there s w kind))
+    (greatest_is s v)
 
 -- the first one from v on
-pub first_found : (s : BTreeSet ℤ) (v x : ℤ) (r t : List ℤ) → IsKeyRangeOf int_cmp (Included v) Unbounded s r → r ≡ x ∷ t → Some x ≡ least_from s.keys v
+pub first_found : (s : List ℤ) (v x : ℤ) (r t : List ℤ) → IsBetween int_cmp (Included v) Unbounded s r → r ≡ x ∷ t → Some x ≡ least_from s v
 first_found s v x r t is first = by r is first
   where
-    by : (r : List ℤ) → IsKeyRangeOf int_cmp (Included v) Unbounded s r → r ≡ x ∷ t → Some x ≡ least_from s.keys v
+    by : (r : List ℤ) → IsBetween int_cmp (Included v) Unbounded s r → r ≡ x ∷ t → Some x ≡ least_from s v
     by [] is first = absurd (cc)
     by (y ∷ ys) is first =
         let same : y ≡ x = cc in
         let here = is.1 in
         rw (← same)
-        (one_least (λ w. IsAmong w s.keys) v (Some y) (least_from s.keys v) (
-          among s.keys y here.1,
+        (one_least (λ w. IsAmong w s) v (Some y) (least_from s v) (
+          among s y here.1,
           not_above v y (int_cmp v y) (int_ranks v y) here.0.0,
-          λ w kind up. not_above y w (int_cmp y w) (int_ranks y w) (is.2 w (since_not_above v w (int_cmp v w) (int_ranks v w) up, tt) (there s.keys w kind)),
+          λ w kind up. not_above y w (int_cmp y w) (int_ranks y w) (is.2 w ((since_not_above v w (int_cmp v w) (int_ranks v w) up, tt), there s w kind)),
         )
-        (least_is s.keys v))
+        (least_is s v))
 
-pub none_from : (s : BTreeSet ℤ) (v : ℤ) (r : List ℤ) → IsKeyRangeOf int_cmp (Included v) Unbounded s r → r ≡ [] → None ≡ least_from s.keys v
+pub none_from : (s : List ℤ) (v : ℤ) (r : List ℤ) → IsBetween int_cmp (Included v) Unbounded s r → r ≡ [] → None ≡ least_from s v
 none_from s v r is empty =
-    one_least (λ w. IsAmong w s.keys) v None (least_from s.keys v)
-    (λ w kind up. both_ways _ (is.5 empty w (since_not_above v w (int_cmp v w) (int_ranks v w) up, tt)) (there s.keys w kind))
-    (least_is s.keys v)
+    one_least (λ w. IsAmong w s) v None (least_from s v)
+    (λ w kind up. is.5 empty w ((since_not_above v w (int_cmp v w) (int_ranks v w) up, tt), there s w kind))
+    (least_is s v)

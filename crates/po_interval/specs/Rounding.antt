@@ -49,10 +49,10 @@ fine_from v = cond (int_le v greatest_fine) (Some (int_max v least_fine)) None
 
 -- an end goes outwards to the nearest threshold; it is missing where there is none
 abbrev pub round_down : Thresholds → Bool → ℤ → Option ℤ
-round_down th head v = cond head (greatest_to th.coarse.keys v) (greater_of (fine_to v) (greatest_to th.coarse.keys v))
+round_down th head v = cond head (greatest_to th.coarse v) (greater_of (fine_to v) (greatest_to th.coarse v))
 
 abbrev pub round_up : Thresholds → Bool → ℤ → Option ℤ
-round_up th head v = cond head (least_from th.coarse.keys v) (lesser_of (fine_from v) (least_from th.coarse.keys v))
+round_up th head v = cond head (least_from th.coarse v) (lesser_of (fine_from v) (least_from th.coarse v))
 
 abbrev pub low_end : Thresholds → Bool → Option ℤ → Option ℤ
 low_end th head None = None
@@ -67,7 +67,7 @@ round a th head = record { lo = low_end th head a.lo; hi = high_end th head a.hi
 
 -- v is a threshold, at a head or elsewhere
 abbrev pub IsThreshold : Thresholds → Bool → ℤ → Type 0
-IsThreshold th head v = IsAmong v th.coarse.keys ⊎ ((head ≡ false) × (least_fine ≤ℤ v) × (v ≤ℤ greatest_fine))
+IsThreshold th head v = IsAmong v th.coarse ⊎ ((head ≡ false) × (least_fine ≤ℤ v) × (v ≤ℤ greatest_fine))
 
 -- end is the nearest threshold that isn't above v, or that isn't below; none where there is no such threshold
 abbrev pub IsNearestDown : Thresholds → Bool → ℤ → Option ℤ → Type 0

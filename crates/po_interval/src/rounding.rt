@@ -3,7 +3,7 @@ ghost use Rattle.po_interval.specs.Rounding as rounding;
 
 use crate::thresholds::Thresholds;
 use po_arith::Interval;
-use std::collections::BTreeSet;
+use po_base::OrdList;
 
 /// The ends of the fine thresholds, which hold every number between them.
 const LEAST_FINE: i128 = -65_536;
@@ -35,8 +35,8 @@ fn lesser_of(a: Option<i128>, b: Option<i128>) -> Option<i128>
 }
 
 /// The greatest of some numbers that isn't above `v`.
-fn greatest_to(numbers: &BTreeSet<i128>, v: i128) -> Option<i128>
-    ensures { result ≡ rounding.greatest_to numbers.now.keys v }
+fn greatest_to(numbers: &OrdList<i128>, v: i128) -> Option<i128>
+    ensures { result ≡ rounding.greatest_to numbers.now v }
 {
     match numbers.range(..=v).next_back() {
         Some(x) => Some(*x),
@@ -45,8 +45,8 @@ fn greatest_to(numbers: &BTreeSet<i128>, v: i128) -> Option<i128>
 }
 
 /// The least of some numbers that isn't below `v`.
-fn least_from(numbers: &BTreeSet<i128>, v: i128) -> Option<i128>
-    ensures { result ≡ rounding.least_from numbers.now.keys v }
+fn least_from(numbers: &OrdList<i128>, v: i128) -> Option<i128>
+    ensures { result ≡ rounding.least_from numbers.now v }
 {
     match numbers.range(v..).next() {
         Some(x) => Some(*x),

@@ -1,16 +1,7 @@
-mod General
+pub mod General
 mod Gains
 mod Reached
 mod Reaching
 mod Paired
 mod Within
-mod Refused
 mod Sites
-mod Named
-mod Places
-mod Noted
-mod OneMore
-mod Owned
-mod Joining
-mod Carried
-mod OneLinked

@@ -8,11 +8,5 @@ pub mod Reaching
 pub mod Leading
 pub mod Paired
 pub mod Types
+pub mod IntTypes
 pub mod Whole
-pub mod Linking
-pub mod Names
-pub mod Joined
-pub mod Noted
-pub mod Objects
-pub mod Scoped
-pub mod Parted

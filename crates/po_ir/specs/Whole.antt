@@ -23,6 +23,7 @@ use Rattle.po_ir.specs.declared.project.Project.{Project}
 use Rattle.po_ir.specs.Instructions.{operands, opened, used}
 use Rattle.po_ir.specs.Paths.{NodeAt, Path, IsWritten, IsEntered}
 use Rattle.po_ir.specs.Valid.{IsValid}
+use Rattle.po_ir.specs.IntTypes.{HasTypesOfTarget}
 use Rattle.po_ir.specs.Types.{TypeIs, IsKept, IsValue, IsInteger, HasTruth, Lies, LiesAmongIntegers, is_comparison, is_shift, size_of, IsResultType}
 use Rattle.po_ir.specs.Reaching.{LibraryEffects, AreEffects}
 
@@ -59,6 +60,12 @@ OperandsLie g (Store at value access) = Lies g Ptr at × Lies g access.ty value
 OperandsLie g (CopyBytes to from size align) = Lies g Ptr to × Lies g Ptr from
 OperandsLie g (If op ty a b true_side false_side) = Lies g ty a × Lies g ty b
 OperandsLie g _ = Unit {0}
+
+-- pointers are compared, and nothing else is computed of two of them (6.5.8, 6.5.9)
+abbrev pub ComparesPointers : Instr → Type 0
+ComparesPointers (Bin to op Ptr a b) = is_comparison op ≡ true
+ComparesPointers (If op Ptr a b true_side false_side) = is_comparison op ≡ true
+ComparesPointers _ = Unit {0}
 
 -- the result register holds every result; that of a PtrDiff has any integer type, to which the result is wrapped
 abbrev pub ResultFits : Graph → Instr → Type 0
@@ -163,6 +170,7 @@ pub record AreParametersFirst (g : Graph) : Type 0 where
 -- what holds of each instruction of a function
 pub record InstructionFits (library : List Signature) (p : Project) (f : Function) (i : Instr) : Type 0 where
   pub operands_lie : OperandsLie f.graph i
+  pub compares_pointers : ComparesPointers i
   pub result_fits : ResultFits f.graph i
   pub numbers_fit : NumbersFit p.target f.graph i
   pub callees_fit : CalleesFit library p f.graph i
@@ -173,6 +181,7 @@ pub record InstructionFits (library : List Signature) (p : Project) (f : Functio
 pub record FunctionFits (library : List Signature) (p : Project) (f : Function) : Type 0 where
   pub valid : IsValid f.graph
   pub parameters : AreParametersFirst f.graph
+  pub types : HasTypesOfTarget f.graph
   pub instructions : (n : ℕ) (i : Instr) → NodeAt f.graph n i → InstructionFits library p f i
   pub written_before_read : (back : List Instr) (n : ℕ) (i : Instr) (r : RegNo) → Path f.graph 0 back n → NodeAt f.graph n i → Contains (operands i) (operand.Reg r) → IsTemporary f.graph r → IsWritten r back
   pub entered_before_used : (back : List Instr) (n : ℕ) (i : Instr) (s : SlotNo) → Path f.graph 0 back n → NodeAt f.graph n i → used i ≡ Some s → IsEntered s back

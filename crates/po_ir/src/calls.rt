@@ -11,8 +11,9 @@ use std::alloc::Global;
 /// The places of calls: the calling function and the node.
 pub(crate) type Sites = List<(FunNo, NodeNo)>;
 
-/// A place as a number of 32 bits. What they don't count is want of memory: it takes more than 2^36 bytes.
-pub(crate) fn counted(place: usize) -> Result<u32, Memory>
+/// A place in a list as a number of 32 bits. What they don't count is want of memory: a list of so many parts takes more than 2^36
+/// bytes.
+pub fn counted(place: usize) -> Result<u32, Memory>
     ensures { IfOk result (λ number. number ≡ place) }
 {
     if place > 4_294_967_295 {

@@ -26,11 +26,11 @@ one_hand {P} hands k one other a b =
     let both : ◌≡◌ {A = Option (Option (Hand P))} (Some (Some other)) (Some (Some one)) = sym b ∙ a in
     cc
 
-module _ {P N T : Type 0} (l now : LedgerView P N) (q : l ≡ now) (t : TicketView P T) where
+module _ {P N T : Type 0} (l now : LedgerView P N T) (q : l ≡ now) (t : TicketView P T) where
   pub fits_when : (hands : List (Option (Hand P))) → hands ≡ l.state.hands → (marks : List (Obl P × Mark P N)) → marks ≡ l.state.marks → (file : FileNo) → file ≡ t.file → (worker : ℕ) → worker ≡ t.worker → (own : List (Obl P × Bool)) → own ≡ t.hand → (hand : Hand P) → slice_get hands file.0 ≡ Some (Some hand) → (r : Bool) → (IsTrue r ↔ IsHandOf marks hand worker own) → IsTrue r ↔ Fits now.state t
   fits_when hands eh marks em file ef worker ew own eo hand at r tells =
-      let same_hands : hands ≡ now.state.hands = eh ∙ ap (λ (z : LedgerView P N). z.state.hands) q in
-      let same_marks : marks ≡ now.state.marks = em ∙ ap (λ (z : LedgerView P N). z.state.marks) q in
+      let same_hands : hands ≡ now.state.hands = eh ∙ ap (λ (z : LedgerView P N T). z.state.hands) q in
+      let same_marks : marks ≡ now.state.marks = em ∙ ap (λ (z : LedgerView P N T). z.state.marks) q in
       let here : slice_get now.state.hands t.file.0 ≡ Some (Some hand) = ap (λ (z : List (Option (Hand P))). slice_get z t.file.0) (sym same_hands) ∙ (ap (λ (z : FileNo). slice_get hands z.0) (sym ef) ∙ at) in (
         λ h. (
             let is = tells.0 h in

@@ -49,7 +49,7 @@ module _ {P N T : Type 0} (b : Book P N T) where
   delegated_same : (q r : P) → ◌≡◌ {A = Verdict P N} (Delegated q) (Delegated r) → q ≡ r
   delegated_same q r e = cc
 
-  posted : (k : ℕ) (q : P) (t : TicketView P T) (old new : LedgerView P N) → IsDue b t k (Delegated q) → PostsItem b k q t old new → PostsBefore b k (Delegated q) t old new
+  posted : (k : ℕ) (q : P) (t : TicketView P T) (old new : LedgerView P N T) → IsDue b t k (Delegated q) → PostsItem b k q t old new → PostsBefore b k (Delegated q) t old new
   posted k q t old new d p = record {
     can = record {
       fits = p.fits;
@@ -62,18 +62,18 @@ module _ {P N T : Type 0} (b : Book P N T) where
     appends = p.did.appends;
   }
 
-  pub post_before : {A E : Type 0} (r : Result A E) (k : ℕ) (q : P) (v : Verdict P N) (t : TicketView P T) (old new : LedgerView P N) → v ≡ Delegated q → OnOk r (PostsItem b k q t old new) → IsDue b t k v → OnOk r (PostsBefore b k v t old new)
+  pub post_before : {A E : Type 0} (r : Result A E) (k : ℕ) (q : P) (v : Verdict P N) (t : TicketView P T) (old new : LedgerView P N T) → v ≡ Delegated q → OnOk r (PostsItem b k q t old new) → IsDue b t k v → OnOk r (PostsBefore b k v t old new)
   post_before (Err e) k q v t old new is ok d = tt
   post_before (Ok x) k q v t old new is ok d = subst (λ (z : Verdict P N). PostsBefore b k z t old new) (sym is) (posted k q t old new (subst (λ (z : Verdict P N). IsDue b t k z) is d) ok)
 
-  pub nothing_before : (k : ℕ) (v : Verdict P N) (t : TicketView P T) (l : LedgerView P N) → ((q : P) → v ≡ Delegated q → ⊥) → Fits l.state t → IsDue b t k v → PostsBefore b k v t l l
+  pub nothing_before : (k : ℕ) (v : Verdict P N) (t : TicketView P T) (l : LedgerView P N T) → ((q : P) → v ≡ Delegated q → ⊥) → Fits l.state t → IsDue b t k v → PostsBefore b k v t l l
   nothing_before k v t l other fits d = record {
     can = record { fits = fits; item = d.item; open_item = d.open_item; verdict = d.verdict; assumed = λ q e. absurd (other q e) };
     hands = λ file hand. (λ h. h, λ h. h);
     appends = sym (append-nil l.journal) ∙ ap (λ (z : List (Event P N)). l.journal ++ z) (nothing_posted t.file d.item v other);
   }
 
-  settled_place : (k : ℕ) (v : Verdict P N) (t u : TicketView P T) (old mid new : LedgerView P N) → PostsBefore b k v t old mid → SettlesItem b k v t u mid new → SettlesPlace b k t u old new
+  settled_place : (k : ℕ) (v : Verdict P N) (t u : TicketView P T) (old mid new : LedgerView P N T) → PostsBefore b k v t old mid → SettlesItem b k v t u mid new → SettlesPlace b k t u old new
   settled_place k v t u old mid new p s =
       let one : s.item ≡ p.can.item = one_open t k s.item p.can.item s.open_item p.can.open_item in
       let wrote : new.journal ≡ mid.journal ++ Settle t.file p.can.item v ∷ [] = s.did.appends ∙ ap (λ (z : Obl P). mid.journal ++ Settle t.file z v ∷ []) one in
@@ -88,14 +88,14 @@ module _ {P N T : Type 0} (b : Book P N T) where
       }
 
   -- an item is settled, after what had to be posted
-  pub item_done : (k : ℕ) (v : Verdict P N) (t0 t u : TicketView P T) (old mid new : LedgerView P N) → t ≡ t0 → PostsBefore b k v t0 old mid → SettlesItem b k v t u mid new → SettlesPlace b k t0 u old new
+  pub item_done : (k : ℕ) (v : Verdict P N) (t0 t u : TicketView P T) (old mid new : LedgerView P N T) → t ≡ t0 → PostsBefore b k v t0 old mid → SettlesItem b k v t u mid new → SettlesPlace b k t0 u old new
   item_done k v t0 t u old mid new same p s = settled_place k v t0 u old mid new p (subst (λ (z : TicketView P T). SettlesItem b k v z u mid new) same s)
 
-  pub can_settle : (k : ℕ) (v : Verdict P N) (t0 t : TicketView P T) (old mid : LedgerView P N) → t ≡ t0 → PostsBefore b k v t0 old mid → CanSettle b mid.state t k v
+  pub can_settle : (k : ℕ) (v : Verdict P N) (t0 t : TicketView P T) (old mid : LedgerView P N T) → t ≡ t0 → PostsBefore b k v t0 old mid → CanSettle b mid.state t k v
   can_settle k v t0 t old mid same p = subst (λ (z : TicketView P T). CanSettle b mid.state z k v) (sym same) p.can
 
   -- nothing of a hand is settled at first
-  pub front_none : (t : TicketView P T) (l : LedgerView P N) → Fits l.state t → IsSettledUpTo t.hand 0 → SettlesFront b 0 t t l l
+  pub front_none : (t : TicketView P T) (l : LedgerView P N T) → Fits l.state t → IsSettledUpTo t.hand 0 → SettlesFront b 0 t t l l
   front_none t l fits fresh = record {
     ticket = record { worker = refl; file = refl; items = refl; tables = refl };
     settled = fresh;
@@ -105,7 +105,7 @@ module _ {P N T : Type 0} (b : Book P N T) where
   }
 
   -- the verdict of the next item
-  pub due_next : (t u : TicketView P T) (old new : LedgerView P N) (vs : List (Verdict P N)) (k : ℕ) (v : Verdict P N) → AreVerdicts b t.hand vs → SettlesFront b k t u old new → k < length u.hand → v ≡ get_or vs k v → IsDue b u k v
+  pub due_next : (t u : TicketView P T) (old new : LedgerView P N T) (vs : List (Verdict P N)) (k : ℕ) (v : Verdict P N) → AreVerdicts b t.hand vs → SettlesFront b k t u old new → k < length u.hand → v ≡ get_or vs k v → IsDue b u k v
   due_next t u old new vs k v are front l is =
       let at = place_at u.hand k l in
       let fresh : at.0.1 ≡ false = (front.settled k at.0.0 at.0.1 at.1).1 (omega arith) in
@@ -133,7 +133,7 @@ module _ {P N T : Type 0} (b : Book P N T) where
   ]
 
   -- one more item is settled
-  pub front_more : (k : ℕ) (t u w : TicketView P T) (old mid new : LedgerView P N) → SettlesFront b k t u old mid → SettlesPlace b k u w mid new → SettlesFront b (k + 1) t w old new
+  pub front_more : (k : ℕ) (t u w : TicketView P T) (old mid new : LedgerView P N T) → SettlesFront b k t u old mid → SettlesPlace b k u w mid new → SettlesFront b (k + 1) t w old new
   front_more k t u w old mid new front p =
       let hand : w.hand ≡ set u.hand k (p.item, true) = ap (λ (z : TicketView P T). z.hand) p.ticket in
       let there : slice_get (items_of t.hand) k ≡ Some p.item = ap (λ (z : List (Obl P)). slice_get z k) (sym front.ticket.items) ∙ item_get u.hand k p.item false p.open_item in
@@ -150,11 +150,11 @@ module _ {P N T : Type 0} (b : Book P N T) where
         appends = p.appends ∙ (ap (λ (z : FileNo). mid.journal ++ settling b z p.item) front.ticket.file ∙ (ap (λ (z : List (Event P N)). z ++ settling b t.file p.item) front.appends ∙ pieces_push (settling b t.file) old.journal (items_of t.hand) k p.item there));
       }
 
-  pub length_front : (k : ℕ) (t u : TicketView P T) (old new : LedgerView P N) → SettlesFront b k t u old new → length u.hand ≡ length t.hand
+  pub length_front : (k : ℕ) (t u : TicketView P T) (old new : LedgerView P N T) → SettlesFront b k t u old new → length u.hand ≡ length t.hand
   length_front k t u old new front = sym (length-map u.hand (λ (z : Obl P × Bool). z.0)) ∙ (ap length front.ticket.items ∙ length-map t.hand (λ (z : Obl P × Bool). z.0))
 
   -- the whole hand is settled
-  pub hand_done : (k : ℕ) (t u : TicketView P T) (old new : LedgerView P N) → SettlesFront b k t u old new → length t.hand ≤ k → SettlesHand b t u old new
+  pub hand_done : (k : ℕ) (t u : TicketView P T) (old new : LedgerView P N T) → SettlesFront b k t u old new → length t.hand ≤ k → SettlesHand b t u old new
   hand_done k t u old new front l =
       let long = length_front k t u old new front in
       let many : length (items_of t.hand) ≤ k = (let same : length (items_of t.hand) ≡ length t.hand = length-map t.hand (λ (z : Obl P × Bool). z.0) in omega arith) in
@@ -166,19 +166,19 @@ module _ {P N T : Type 0} (b : Book P N T) where
         appends = front.appends ∙ ap (λ (z : List (Obl P)). old.journal ++ flat_map (settling b t.file) z) (take_all k (items_of t.hand) many);
       }
 
-  pub extends : (k : ℕ) (t u : TicketView P T) (old new : LedgerView P N) → SettlesFront b k t u old new → Extends old.journal new.journal
+  pub extends : (k : ℕ) (t u : TicketView P T) (old new : LedgerView P N T) → SettlesFront b k t u old new → Extends old.journal new.journal
   extends k t u old new front = (flat_map (settling b t.file) (take k (items_of t.hand)), front.appends)
 
 -- a file that is held has a place
-pub held_there : {P N T : Type 0} (named of_book : Book P N T) (l now : LedgerView P N) (shelves : List (List (FunNo × T))) → IsKept named of_book l shelves → l ≡ now → (file : FileNo) → IsHeld now.state file → file.0 < named.files
-held_there {P} {N} named of_book l now shelves k q file held =
-    let here : IsHeld l.state file = subst (λ (z : LedgerView P N). IsHeld z.state file) (sym q) held in
+pub held_there : {P N T : Type 0} (named of_book : Book P N T) (l now : LedgerView P N T) (shelves : List (List (FunNo × T))) → IsKept named of_book l shelves → l ≡ now → (file : FileNo) → IsHeld now.state file → file.0 < named.files
+held_there {P} {N} {T} named of_book l now shelves k q file held =
+    let here : IsHeld l.state file = subst (λ (z : LedgerView P N T). IsHeld z.state file) (sym q) held in
     let within : file.0 < length l.state.hands = slice_get_within l.state.hands file.0 (Some here.0) here.1 in
     let many : length l.state.hands ≡ named.files = k.hands_there in
     omega arith
 
 -- what is in a hand is known
-pub hands_known : {P N T : Type 0} (named of_book : Book P N T) (l now : LedgerView P N) (shelves : List (List (FunNo × T))) → IsKept named of_book l shelves → l ≡ now → ((es : List (Event P N)) (s : CoreState P N) → Replays of_book es s → IsOrderly of_book s) → (file : FileNo) (o : Obl P) → IsInHand now.state file o → IsKnown now.state o
-hands_known {P} {N} named of_book l now shelves k q law file o held =
-    let order : IsOrderly named now.state = subst (λ (z : LedgerView P N). IsOrderly named z.state) q (order_here named of_book l shelves k law) in
+pub hands_known : {P N T : Type 0} (named of_book : Book P N T) (l now : LedgerView P N T) (shelves : List (List (FunNo × T))) → IsKept named of_book l shelves → l ≡ now → ((es : List (Event P N)) (s : CoreState P N) → Replays of_book es s → IsOrderly of_book s) → (file : FileNo) (o : Obl P) → IsInHand now.state file o → IsKnown now.state o
+hands_known {P} {N} {T} named of_book l now shelves k q law file o held =
+    let order : IsOrderly named now.state = subst (λ (z : LedgerView P N T). IsOrderly named z.state) q (order_here named of_book l shelves k law) in
     order.hands_known file o held

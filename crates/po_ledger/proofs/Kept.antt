@@ -27,19 +27,19 @@ use Rattle.po_ledger.proofs.Effects.{remark_means, keys_same, remarks_like, othe
 use Rattle.po_ledger.proofs.Room.{room_kept, room_settled, room_freed, room_taken}
 
 -- a fact of the value that is seen
-pub does_seen : {P N T : Type 0} (b : Book P N T) (e : Event P N) (l old m : LedgerView P N) → l ≡ old → Does b e l m → Does b e old m
-does_seen {P} {N} b e l old m q d = subst (λ (z : LedgerView P N). Does b e z m) q d
+pub does_seen : {P N T : Type 0} (b : Book P N T) (e : Event P N) (l old m : LedgerView P N T) → l ≡ old → Does b e l m → Does b e old m
+does_seen {P} {N} {T} b e l old m q d = subst (λ (z : LedgerView P N T). Does b e z m) q d
 
-pub legal_seen : {P N T : Type 0} (b : Book P N T) (e : Event P N) (l old : LedgerView P N) → l ≡ old → IsLegal b old.state e → IsLegal b l.state e
-legal_seen {P} {N} b e l old q d = subst (λ (z : LedgerView P N). IsLegal b z.state e) (sym q) d
+pub legal_seen : {P N T : Type 0} (b : Book P N T) (e : Event P N) (l old : LedgerView P N T) → l ≡ old → IsLegal b old.state e → IsLegal b l.state e
+legal_seen {P} {N} {T} b e l old q d = subst (λ (z : LedgerView P N T). IsLegal b z.state e) (sym q) d
 
-pub held_seen : {P N : Type 0} (file : FileNo) (l old : LedgerView P N) → l ≡ old → IsHeld old.state file → IsHeld l.state file
-held_seen {P} {N} file l old q d = subst (λ (z : LedgerView P N). IsHeld z.state file) (sym q) d
+pub held_seen : {P N T : Type 0} (file : FileNo) (l old : LedgerView P N T) → l ≡ old → IsHeld old.state file → IsHeld l.state file
+held_seen {P} {N} {T} file l old q d = subst (λ (z : LedgerView P N T). IsHeld z.state file) (sym q) d
 
-pub order_of : {P N T : Type 0} (of_book b : Book P N T) (l : LedgerView P N) → of_book ≡ b → ((es : List (Event P N)) (s : CoreState P N) → Replays of_book es s → IsOrderly of_book s) → (es : List (Event P N)) (s : CoreState P N) → Replays b es s → IsOrderly b s
+pub order_of : {P N T : Type 0} (of_book b : Book P N T) (l : LedgerView P N T) → of_book ≡ b → ((es : List (Event P N)) (s : CoreState P N) → Replays of_book es s → IsOrderly of_book s) → (es : List (Event P N)) (s : CoreState P N) → Replays b es s → IsOrderly b s
 order_of {P} {N} {T} of_book b l q h = subst (λ (z : Book P N T). (es : List (Event P N)) (s : CoreState P N) → Replays z es s → IsOrderly z s) q h
 
-module _ {P N T : Type 0} (b : Book P N T) (of_book : Book P N T) (l m : LedgerView P N) (shelves : List (List (FunNo × T))) (k : IsKept b of_book l shelves) where
+module _ {P N T : Type 0} (b : Book P N T) (of_book : Book P N T) (l m : LedgerView P N T) (shelves : List (List (FunNo × T))) (k : IsKept b of_book l shelves) where
   -- what a call that is one event keeps
   pub kept_after : (later : List (List (FunNo × T))) (e : Event P N) → Does b e l m → IsRoomFor m.state m.spare → AreApart (map (λ x. x.0) m.state.marks) → AreApart m.state.assumed → length m.state.hands ≡ length l.state.hands → length later ≡ length shelves → ((at : ℕ) (tables : List (FunNo × T)) → slice_get later at ≡ Some tables → AreTables b tables) → IsKept b of_book m later
   kept_after later e did room apart assumed_apart hands same shelved = record {
@@ -194,7 +194,7 @@ module _ {P N T : Type 0} (b : Book P N T) (of_book : Book P N T) (l m : LedgerV
       (room_freed l.state m.state l.spare m.spare k.ledger.room file did.steps.legal (λ o h. elim ((did.steps.effect.1 o Taken).0 h) [ inl x ↦ absurd (taken_untaken x.0) | inr x ↦ x.0 ]) (freed file did.steps.effect.0) le)
       (remarked_apart (r.PutBack file) marks) (still_apart same) hands refl k.shelved
 
-module _ {P N T : Type 0} (b of_book : Book P N T) (l : LedgerView P N) (shelves : List (List (FunNo × T))) (k : IsKept b of_book l shelves) (law : (es : List (Event P N)) (s : CoreState P N) → Replays of_book es s → IsOrderly of_book s) where
+module _ {P N T : Type 0} (b of_book : Book P N T) (l : LedgerView P N T) (shelves : List (List (FunNo × T))) (k : IsKept b of_book l shelves) (law : (es : List (Event P N)) (s : CoreState P N) → Replays of_book es s → IsOrderly of_book s) where
   pub order_here : IsOrderly b l.state
   order_here = order_of of_book b l k.same_book law l.journal l.state k.ledger.replays
 
@@ -209,7 +209,7 @@ module _ {P N T : Type 0} (b of_book : Book P N T) (l : LedgerView P N) (shelves
       let r = k.ledger.room [] (file ∷ []) tt (λ o c. absurd (has [] o c)) ((λ c. has [] file c), tt) (λ f c. elim (has (file ∷ []) f c) [ inl q ↦ subst (λ (z : FileNo). IsHeld l.state z) q h | inr x ↦ absurd x ]) in
       omega arith
 
-  module _ (m : LedgerView P N) where
+  module _ (m : LedgerView P N T) where
     pub remarked_here : (mark : Remark P N) → IsRemarked of_book mark l.state.marks m.state.marks → IsRemarked b mark l.state.marks m.state.marks
     remarked_here mark h = subst (λ (z : Book P N T). IsRemarked z mark l.state.marks m.state.marks) k.same_book h
 

@@ -5,6 +5,7 @@ pub mod Effects
 pub mod Room
 pub mod Kept
 pub mod Settled
+mod Shelved
 pub mod Items
 pub mod Taken
 pub mod Starts
@@ -20,3 +21,4 @@ mod Reported
 mod Indexed
 mod Located
 mod Judged
+mod Added

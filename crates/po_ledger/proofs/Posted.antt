@@ -95,9 +95,9 @@ apart_added : {X : Type 0} (old new : List X) (x : X) → AreApart old → AddsI
 apart_added {X} old new x a (inl h) = subst (λ (z : List X). AreApart z) (sym h.1) a
 apart_added {X} old new x a (inr h) = subst (λ (z : List X). AreApart z) (sym h.1) (apart_push old x a h.0)
 
-module _ {P N T : Type 0} (b of_book : Book P N T) (l : LedgerView P N) (shelves : List (List (FunNo × T))) (kept : IsKept b of_book l shelves) (law : (es : List (Event P N)) (s : CoreState P N) → Replays of_book es s → IsOrderly of_book s) (t : TicketView P T) (old : LedgerView P N) (seen : l ≡ old) (k : ℕ) (q : P) (can : CanPost b old.state t k q) (p : Obl P) (item : IsItemAt t k p) where
+module _ {P N T : Type 0} (b of_book : Book P N T) (l : LedgerView P N T) (shelves : List (List (FunNo × T))) (kept : IsKept b of_book l shelves) (law : (es : List (Event P N)) (s : CoreState P N) → Replays of_book es s → IsOrderly of_book s) (t : TicketView P T) (old : LedgerView P N T) (seen : l ≡ old) (k : ℕ) (q : P) (can : CanPost b old.state t k q) (p : Obl P) (item : IsItemAt t k p) where
   can_here : CanPost b l.state t k q
-  can_here = subst (λ (z : LedgerView P N). CanPost b z.state t k q) (sym seen) can
+  can_here = subst (λ (z : LedgerView P N T). CanPost b z.state t k q) (sym seen) can
 
   one : p ≡ can_here.item
   one = same_item b l.state (order_here b of_book l shelves kept law) t k can_here.item p can_here.open_item item
@@ -111,7 +111,7 @@ module _ {P N T : Type 0} (b of_book : Book P N T) (l : LedgerView P N) (shelves
   pub post_there : p.fun.0 < of_book.functions
   post_there = subst (λ (z : Book P N T). p.fun.0 < z.functions) (sym kept.same_book) ((order_here b of_book l shelves kept law).functions_there p (Taken, legal_here.0.1))
 
-  module _ (m : LedgerView P N) (file : FileNo) (of_ticket : file ≡ t.file) (sites : List (FunNo × NodeNo)) (all : sites ≡ of_book.call_sites p.fun) (adds : AddsEach (supports_of q sites) l.state.marks m.state.marks) (assumes : AddsItem l.state.assumed m.state.assumed (p.fun, q)) (hands : m.state.hands ≡ l.state.hands) (grows : m.journal ≡ l.journal ++ Post file p q ∷ []) where
+  module _ (m : LedgerView P N T) (file : FileNo) (of_ticket : file ≡ t.file) (sites : List (FunNo × NodeNo)) (all : sites ≡ of_book.call_sites p.fun) (adds : AddsEach (supports_of q sites) l.state.marks m.state.marks) (assumes : AddsItem l.state.assumed m.state.assumed (p.fun, q)) (hands : m.state.hands ≡ l.state.hands) (grows : m.journal ≡ l.journal ++ Post file p q ∷ []) where
     post_effect : Posts b p.fun q l.state m.state
     post_effect = posts b p.fun q l.state m.state sites (all ∙ ap (λ (z : Book P N T). z.call_sites p.fun) kept.same_book) adds assumes hands
 
@@ -144,8 +144,8 @@ module _ {P N T : Type 0} (b of_book : Book P N T) (l : LedgerView P N) (shelves
 pub cut_back : {X : Type 0} (old long cut : List X) (n : ℕ) → n ≡ length old → (more : List X) × (long ≡ old ++ more) → cut ≡ take n long → cut ≡ old
 cut_back {X} old long cut n l h is = is ∙ (ap (λ (z : List X). take n z) h.1 ∙ take_at old h.0 n (sym l))
 
-pub same_view : {P N : Type 0} (marks marks' : List (Obl P × Mark P N)) (hands : List (Option (Hand P))) (assumed assumed' : List (FunNo × P)) (journal journal' : List (Event P N)) (spare spare' : ℕ) → marks' ≡ marks → assumed' ≡ assumed → journal' ≡ journal → spare' ≡ spare → view_of marks' hands assumed' journal' spare' ≡ view_of marks hands assumed journal spare
-same_view {P} {N} marks marks' hands assumed assumed' journal journal' spare spare' qm qa qj qs i = record { state = record { marks = qm i; hands = hands; assumed = qa i }; journal = qj i; spare = qs i }
+pub same_view : {P N T : Type 0} (marks marks' : List (Obl P × Mark P N)) (hands : List (Option (Hand P))) (assumed assumed' : List (FunNo × P)) (journal journal' : List (Event P N)) (spare spare' : ℕ) (tables : List (List (FunNo × T))) → marks' ≡ marks → assumed' ≡ assumed → journal' ≡ journal → spare' ≡ spare → view_of marks' hands assumed' journal' spare' tables ≡ view_of marks hands assumed journal spare tables
+same_view marks marks' hands assumed assumed' journal journal' spare spare' tables qm qa qj qs i = record { state = record { marks = qm i; hands = hands; assumed = qa i }; journal = qj i; spare = qs i; tables = tables }
 
-pub kept_view : {P N T : Type 0} (b of_book : Book P N T) (l m : LedgerView P N) (shelves : List (List (FunNo × T))) → m ≡ l → IsKept b of_book l shelves → IsKept b of_book m shelves
-kept_view {P} {N} b of_book l m shelves q k = subst (λ (z : LedgerView P N). IsKept b of_book z shelves) (sym q) k
+pub kept_view : {P N T : Type 0} (b of_book : Book P N T) (l m : LedgerView P N T) (shelves : List (List (FunNo × T))) → m ≡ l → IsKept b of_book l shelves → IsKept b of_book m shelves
+kept_view {P} {N} {T} b of_book l m shelves q k = subst (λ (z : LedgerView P N T). IsKept b of_book z shelves) (sym q) k

@@ -37,12 +37,12 @@ counts_nothing {X} Q c x h = empty c.0 c.4 (c.3 x h)
     empty [] long k = let l : k.0 < 0 = k.1 in omega arith
     empty (y ∷ ys) long k = let l : suc (length ys) ≡ 0 = long in omega arith
 
-module _ {P N : Type 0} (l now : LedgerView P N) (q : l ≡ now) (hands : List (Option (Hand P))) (eh : hands ≡ l.state.hands) (marks : List (Obl P × Mark P N)) (em : marks ≡ l.state.marks) (held untaken : ℕ) (of_files : Counts (HandAt hands) held) (of_obligations : Counts (λ o. Contains marks (o, Untaken)) untaken) where
+module _ {P N T : Type 0} (l now : LedgerView P N T) (q : l ≡ now) (hands : List (Option (Hand P))) (eh : hands ≡ l.state.hands) (marks : List (Obl P × Mark P N)) (em : marks ≡ l.state.marks) (held untaken : ℕ) (of_files : Counts (HandAt hands) held) (of_obligations : Counts (λ o. Contains marks (o, Untaken)) untaken) where
   held_now : Counts (HandAt now.state.hands) held
-  held_now = subst (λ (z : List (Option (Hand P))). Counts (HandAt z) held) (eh ∙ ap (λ (z : LedgerView P N). z.state.hands) q) of_files
+  held_now = subst (λ (z : List (Option (Hand P))). Counts (HandAt z) held) (eh ∙ ap (λ (z : LedgerView P N T). z.state.hands) q) of_files
 
   untaken_now : Counts (λ o. Contains now.state.marks (o, Untaken)) untaken
-  untaken_now = subst (λ (z : List (Obl P × Mark P N)). Counts (λ o. Contains z (o, Untaken)) untaken) (em ∙ ap (λ (z : LedgerView P N). z.state.marks) q) of_obligations
+  untaken_now = subst (λ (z : List (Obl P × Mark P N)). Counts (λ o. Contains z (o, Untaken)) untaken) (em ∙ ap (λ (z : LedgerView P N T). z.state.marks) q) of_obligations
 
   pub is_busy : 0 < held + untaken → IsBusy now.state held untaken
   is_busy some = record {
@@ -68,9 +68,9 @@ module _ {P N : Type 0} (l now : LedgerView P N) (q : l ≡ now) (hands : List (
         none_untaken = counts_nothing (λ o. Contains now.state.marks (o, Untaken)) (subst (λ (z : ℕ). Counts (λ o. Contains now.state.marks (o, Untaken)) z) no_untaken untaken_now);
       }
 
-module _ {P N T : Type 0} (by : P → P → Ordering) (b of_book : Book P N T) (l : LedgerView P N) (shelves : List (List (FunNo × T))) (kept : IsKept b of_book l shelves) (now : LedgerView P N) (q : l ≡ now) (quiet : IsQuiet now.state) (order_law : (es : List (Event P N)) (s : CoreState P N) → Replays of_book es s → IsOrderly of_book s) (least_law : (es : List (Event P N)) (s : CoreState P N) → Replays of_book es s → IsQuiet s → IsLeast of_book es s) where
+module _ {P N T : Type 0} (by : P → P → Ordering) (b of_book : Book P N T) (l : LedgerView P N T) (shelves : List (List (FunNo × T))) (kept : IsKept b of_book l shelves) (now : LedgerView P N T) (q : l ≡ now) (quiet : IsQuiet now.state) (order_law : (es : List (Event P N)) (s : CoreState P N) → Replays of_book es s → IsOrderly of_book s) (least_law : (es : List (Event P N)) (s : CoreState P N) → Replays of_book es s → IsQuiet s → IsLeast of_book es s) where
   least_here : IsLeast b l.journal l.state
-  least_here = (subst (λ (z : Book P N T). (es : List (Event P N)) (s : CoreState P N) → Replays z es s → IsQuiet s → IsLeast z es s) kept.same_book least_law) l.journal l.state kept.ledger.replays (subst (λ (z : LedgerView P N). IsQuiet z.state) (sym q) quiet)
+  least_here = (subst (λ (z : Book P N T). (es : List (Event P N)) (s : CoreState P N) → Replays z es s → IsQuiet s → IsLeast z es s) kept.same_book least_law) l.journal l.state kept.ledger.replays (subst (λ (z : LedgerView P N T). IsQuiet z.state) (sym q) quiet)
 
   the_verdict : (o : Obl P) (v : Verdict P N) → IsSettled l.state o v → v ≡ b.verdict_of o
   the_verdict o v h = same_verdict v (b.verdict_of o) ((order_here b of_book l shelves kept order_law).one_mark o (Settled v) (Settled (b.verdict_of o)) h (least_here.settled o (Settled v, h)))

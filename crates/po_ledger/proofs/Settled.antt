@@ -104,24 +104,24 @@ module _ {P N T : Type 0} (b : Book P N T) (s : CoreState P N) (order : IsOrderl
   pub give_legal : CanGive s t → IsLegal b s (Give t.worker t.file)
   give_legal c = ((c.fits.hand, c.fits.holds, c.fits.by_worker), λ o h. let x = hand_item c.fits o h in (c.fits.same_settled o x.0 x.1).0 (c.all_settled o x.0 x.1))
 
-pub can_settle_seen : {P N T : Type 0} (b : Book P N T) (l old : LedgerView P N) (t : TicketView P T) (k : ℕ) (v : Verdict P N) → l ≡ old → CanSettle b old.state t k v → CanSettle b l.state t k v
-can_settle_seen {P} {N} b l old t k v q c = subst (λ (z : LedgerView P N). CanSettle b z.state t k v) (sym q) c
+pub can_settle_seen : {P N T : Type 0} (b : Book P N T) (l old : LedgerView P N T) (t : TicketView P T) (k : ℕ) (v : Verdict P N) → l ≡ old → CanSettle b old.state t k v → CanSettle b l.state t k v
+can_settle_seen {P} {N} {T} b l old t k v q c = subst (λ (z : LedgerView P N T). CanSettle b z.state t k v) (sym q) c
 
-pub can_give_seen : {P N T : Type 0} (l old : LedgerView P N) (t : TicketView P T) → l ≡ old → CanGive old.state t → CanGive l.state t
-can_give_seen {P} {N} l old t q c = subst (λ (z : LedgerView P N). CanGive z.state t) (sym q) c
+pub can_give_seen : {P N T : Type 0} (l old : LedgerView P N T) (t : TicketView P T) → l ≡ old → CanGive old.state t → CanGive l.state t
+can_give_seen {P} {N} {T} l old t q c = subst (λ (z : LedgerView P N T). CanGive z.state t) (sym q) c
 
-module _ {P N T : Type 0} (b of_book : Book P N T) (l : LedgerView P N) (shelves : List (List (FunNo × T))) (kept : IsKept b of_book l shelves) (law : (es : List (Event P N)) (s : CoreState P N) → Replays of_book es s → IsOrderly of_book s) (t : TicketView P T) where
+module _ {P N T : Type 0} (b of_book : Book P N T) (l : LedgerView P N T) (shelves : List (List (FunNo × T))) (kept : IsKept b of_book l shelves) (law : (es : List (Event P N)) (s : CoreState P N) → Replays of_book es s → IsOrderly of_book s) (t : TicketView P T) where
   pub fits_held : Fits l.state t → IsHeld l.state t.file
   fits_held f = (f.hand, f.holds)
 
-  module _ (old : LedgerView P N) (q : l ≡ old) (k : ℕ) (v : Verdict P N) (can : CanSettle b old.state t k v) (p : Obl P) (item : IsItemAt t k p) where
+  module _ (old : LedgerView P N T) (q : l ≡ old) (k : ℕ) (v : Verdict P N) (can : CanSettle b old.state t k v) (p : Obl P) (item : IsItemAt t k p) where
     can_here : CanSettle b l.state t k v
     can_here = can_settle_seen b l old t k v q can
 
     pub settle_room : 0 < l.spare
     settle_room = room_one b of_book l shelves kept law t.file (fits_held can_here.fits)
 
-    module _ (m : LedgerView P N) (file : FileNo) (of_ticket : file ≡ t.file) (marks : IsRemarked of_book (r.Settle p v) l.state.marks m.state.marks) (hands : m.state.hands ≡ l.state.hands) (same : m.state.assumed ≡ l.state.assumed) (grows : m.journal ≡ l.journal ++ Settle file p v ∷ []) where
+    module _ (m : LedgerView P N T) (file : FileNo) (of_ticket : file ≡ t.file) (marks : IsRemarked of_book (r.Settle p v) l.state.marks m.state.marks) (hands : m.state.hands ≡ l.state.hands) (same : m.state.assumed ≡ l.state.assumed) (grows : m.journal ≡ l.journal ++ Settle file p v ∷ []) where
       settle_did : Does b (Settle t.file p v) l m
       settle_did = settle_does b of_book l m shelves kept t.file p v (settle_legal b l.state (order_here b of_book l shelves kept law) t k v p can_here item) (remarked_here b of_book l shelves kept law m (r.Settle p v) marks) hands same (subst (λ (z : FileNo). m.journal ≡ l.journal ++ Settle z p v ∷ []) of_ticket grows)
 
@@ -141,7 +141,7 @@ module _ {P N T : Type 0} (b of_book : Book P N T) (l : LedgerView P N) (shelves
             fits = fits_after b l.state (order_here b of_book l shelves kept law) t m.state k v p u can_here item settle_did.steps.effect settle_did.steps.legal.0.1 is;
           }
 
-  module _ (old : LedgerView P N) (q : l ≡ old) (can : CanGive old.state t) where
+  module _ (old : LedgerView P N T) (q : l ≡ old) (can : CanGive old.state t) where
     give_here : CanGive l.state t
     give_here = can_give_seen l old t q can
 
@@ -157,7 +157,7 @@ module _ {P N T : Type 0} (b of_book : Book P N T) (l : LedgerView P N) (shelves
     pub give_room : 0 < l.spare
     give_room = room_one b of_book l shelves kept law t.file give_held
 
-    module _ (m : LedgerView P N) (worker : ℕ) (of_worker : worker ≡ t.worker) (file : FileNo) (of_file : file ≡ t.file) (marks : m.state.marks ≡ l.state.marks) (hands : m.state.hands ≡ set l.state.hands file.0 None) (same : m.state.assumed ≡ l.state.assumed) (grows : m.journal ≡ l.journal ++ Give worker file ∷ []) where
+    module _ (m : LedgerView P N T) (worker : ℕ) (of_worker : worker ≡ t.worker) (file : FileNo) (of_file : file ≡ t.file) (marks : m.state.marks ≡ l.state.marks) (hands : m.state.hands ≡ set l.state.hands file.0 None) (same : m.state.assumed ≡ l.state.assumed) (grows : m.journal ≡ l.journal ++ Give worker file ∷ []) where
       hands_here : m.state.hands ≡ set l.state.hands t.file.0 None
       hands_here = subst (λ (z : FileNo). m.state.hands ≡ set l.state.hands z.0 None) of_file hands
 

@@ -93,7 +93,7 @@ module _ {P N T : Type 0} (b : Book P N T) where
     none_assumed = λ f q h. has [] (f, q) (subst (λ (z : List (FunNo × P)). Contains z (f, q)) none h);
   }
 
-module _ {P N T : Type 0} (b of_book : Book P N T) (same : of_book ≡ b) (l : LedgerView P N) (shelves : List (List (FunNo × T))) (files : ℕ) (all : files ≡ of_book.files) (adds : AddsEach (primaries_below of_book of_book.functions) [] l.state.marks) (hands : l.state.hands ≡ replicate files None) (none : l.state.assumed ≡ []) (empty : l.journal ≡ []) where
+module _ {P N T : Type 0} (b of_book : Book P N T) (same : of_book ≡ b) (l : LedgerView P N T) (shelves : List (List (FunNo × T))) (files : ℕ) (all : files ≡ of_book.files) (adds : AddsEach (primaries_below of_book of_book.functions) [] l.state.marks) (hands : l.state.hands ≡ replicate files None) (none : l.state.assumed ≡ []) (empty : l.journal ≡ []) where
   start_here : IsStart b l.state
   start_here = starts b l.state files (subst (λ (z : Book P N T). AddsEach (primaries_below z z.functions) [] l.state.marks) same adds) hands none
 
@@ -120,21 +120,21 @@ module _ {P N T : Type 0} (b of_book : Book P N T) (same : of_book ≡ b) (l : L
     shelved = λ at tables h f table c. absurd (has [] (f, table) (subst (λ (z : List (FunNo × T)). Contains z (f, table)) (sym (no_tables many at tables (ap (λ (z : List (List (FunNo × T))). slice_get z at) (sym shelf) ∙ h))) c));
   }
 
-module _ {P N T : Type 0} (b of_book : Book P N T) (same : of_book ≡ b) (l old : LedgerView P N) (q : l ≡ old) (marks : List (Obl P × Mark P N)) (em : AreLeft l.state.marks marks) (hands : List (Option (Hand P))) (eh : hands ≡ l.state.hands) where
+module _ {P N T : Type 0} (b of_book : Book P N T) (same : of_book ≡ b) (l old : LedgerView P N T) (q : l ≡ old) (marks : List (Obl P × Mark P N)) (em : AreLeft l.state.marks marks) (hands : List (Option (Hand P))) (eh : hands ≡ l.state.hands) where
   pub find_some : (r : Option FileNo) → IfSome r (λ file. (¬ HandAt hands file) × ((o : Obl P) × Contains marks (o, Untaken) × (file_of_obl of_book o ≡ file))) → IfSome r (CanTake b old.state)
   find_some None h = h
   find_some (Some file) h =
       let free : ¬ HandAt l.state.hands file = subst (λ (z : List (Option (Hand P))). ¬ HandAt z file) eh h.0 in
       let there : Contains l.state.marks (h.1.0, Untaken) = (em.untaken h.1.0).0 h.1.1 in
-      subst (λ (z : LedgerView P N). CanTake b z.state file) q (can_take b of_book same l.state file (free, (h.1.0, there, h.1.2)))
+      subst (λ (z : LedgerView P N T). CanTake b z.state file) q (can_take b of_book same l.state file (free, (h.1.0, there, h.1.2)))
 
   pub find_none : (r : Option FileNo) → IfNone r (NoneTakeable of_book marks hands) → IfNone r ((file : FileNo) → ¬ CanTake b old.state file)
   find_none (Some file) h = h
   find_none None h =
       let there : NoneTakeable of_book l.state.marks l.state.hands = λ o u. subst (λ (z : List (Option (Hand P))). HandAt z (file_of_obl of_book o)) eh (h o ((em.untaken o).1 u)) in
-      λ file c. none_takeable b of_book same l.state there file (subst (λ (z : LedgerView P N). CanTake b z.state file) (sym q) c)
+      λ file c. none_takeable b of_book same l.state there file (subst (λ (z : LedgerView P N T). CanTake b z.state file) (sym q) c)
 
-pub held_also : {P N : Type 0} (l old : LedgerView P N) (q : l ≡ old) (hands : List (Option (Hand P))) (eh : hands ≡ l.state.hands) → (((file : FileNo) × HandAt hands file) → ((file : FileNo) × IsHeld old.state file)) × (((file : FileNo) × IsHeld old.state file) → ((file : FileNo) × HandAt hands file))
-held_also {P} {N} l old q hands eh =
-    let is : hands ≡ old.state.hands = eh ∙ ap (λ (z : LedgerView P N). z.state.hands) q in
+pub held_also : {P N T : Type 0} (l old : LedgerView P N T) (q : l ≡ old) (hands : List (Option (Hand P))) (eh : hands ≡ l.state.hands) → (((file : FileNo) × HandAt hands file) → ((file : FileNo) × IsHeld old.state file)) × (((file : FileNo) × IsHeld old.state file) → ((file : FileNo) × HandAt hands file))
+held_also {P} {N} {T} l old q hands eh =
+    let is : hands ≡ old.state.hands = eh ∙ ap (λ (z : LedgerView P N T). z.state.hands) q in
     (λ h. (h.0, subst (λ (z : List (Option (Hand P))). HandAt z h.0) is h.1), λ h. (h.0, subst (λ (z : List (Option (Hand P))). HandAt z h.0) (sym is) h.1))

@@ -31,9 +31,9 @@ open_item [] o x h = absurd h
 open_item {P} (p ∷ ps) o x (inl q) = (inl (ap (λ (z : Obl P × Bool). z.0) q), sym (ap (λ (z : Obl P × Bool). z.1) q))
 open_item (p ∷ ps) o x (inr h) = let r = open_item ps o x h in (inr r.0, r.1)
 
-module _ {P N T : Type 0} (eq : P → P → Bool) (b of_book : Book P N T) (book_law : IsBook eq of_book) (l : LedgerView P N) (shelves : List (List (FunNo × T))) (kept : IsKept b of_book l shelves) (law : (es : List (Event P N)) (s : CoreState P N) → Replays of_book es s → IsOrderly of_book s) (old : LedgerView P N) (q : l ≡ old) (worker : ℕ) (file : FileNo) (can : CanTake b old.state file) where
+module _ {P N T : Type 0} (eq : P → P → Bool) (b of_book : Book P N T) (book_law : IsBook eq of_book) (l : LedgerView P N T) (shelves : List (List (FunNo × T))) (kept : IsKept b of_book l shelves) (law : (es : List (Event P N)) (s : CoreState P N) → Replays of_book es s → IsOrderly of_book s) (old : LedgerView P N T) (q : l ≡ old) (worker : ℕ) (file : FileNo) (can : CanTake b old.state file) where
   can_here : CanTake b l.state file
-  can_here = subst (λ (z : LedgerView P N). CanTake b z.state file) (sym q) can
+  can_here = subst (λ (z : LedgerView P N T). CanTake b z.state file) (sym q) can
 
   pub take_place : file.0 < length l.state.hands
   take_place =
@@ -60,7 +60,7 @@ module _ {P N T : Type 0} (eq : P → P → Bool) (b of_book : Book P N T) (book
       tables_right = kept.shelved file.0 tables was;
     }
 
-    module _ (m : LedgerView P N) (marks : IsRemarked of_book (r.Take file) l.state.marks m.state.marks) (hands : m.state.hands ≡ set l.state.hands file.0 (Some (record { worker = worker; items = items }))) (same : m.state.assumed ≡ l.state.assumed) (grows : m.journal ≡ l.journal ++ Take worker file ∷ []) (room : l.spare + (length items + 2) ≤ m.spare) where
+    module _ (m : LedgerView P N T) (marks : IsRemarked of_book (r.Take file) l.state.marks m.state.marks) (hands : m.state.hands ≡ set l.state.hands file.0 (Some (record { worker = worker; items = items }))) (same : m.state.assumed ≡ l.state.assumed) (grows : m.journal ≡ l.journal ++ Take worker file ∷ []) (room : l.spare + (length items + 2) ≤ m.spare) where
       take_effect : Takes b worker file l.state m.state
       take_effect = take_takes b of_book l m shelves kept worker file items take_place (remarked_here b of_book l shelves kept law m (r.Take file) marks) hands same from_here
 
@@ -103,5 +103,5 @@ module _ {P N T : Type 0} (eq : P → P → Bool) (b of_book : Book P N T) (book
             by_worker = refl;
             fits = out;
             all_open = λ o x h. (in_items o x h).1;
-            room = let long = ap length is ∙ length-map items (λ o. let y : Obl P × Bool = (o, false) in y) in let before : old.spare ≡ l.spare = ap (λ (z : LedgerView P N). z.spare) (sym q) in omega arith;
+            room = let long = ap length is ∙ length-map items (λ o. let y : Obl P × Bool = (o, false) in y) in let before : old.spare ≡ l.spare = ap (λ (z : LedgerView P N T). z.spare) (sym q) in omega arith;
           }

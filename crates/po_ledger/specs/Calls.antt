@@ -11,12 +11,12 @@ use Rattle.po_core.specs.declared.obl.Verdict.TheVariants.{Delegated}
 use Rattle.po_ledger.specs.View.{LedgerView, TicketView, Fits}
 
 -- A ledger to which nothing has happened.
-pub record IsNew {P N T : Type 0} (b : Book P N T) (l : LedgerView P N) : Type 0 where
+pub record IsNew {P N T : Type 0} (b : Book P N T) (l : LedgerView P N T) : Type 0 where
   pub start : IsStart b l.state
   pub empty : l.journal ≡ []
 
 -- The call is this one event: it was legal, the state has changed by its effect, and the journal has grown by it alone.
-pub record Does {P N T : Type 0} (b : Book P N T) (e : Event P N) (old new : LedgerView P N) : Type 0 where
+pub record Does {P N T : Type 0} (b : Book P N T) (e : Event P N) (old new : LedgerView P N T) : Type 0 where
   pub steps : Steps b e old.state new.state
   pub appends : new.journal ≡ old.journal ++ e ∷ []
 
@@ -30,7 +30,7 @@ IsItemAt t k o = (settled : Bool) × (slice_get t.hand k ≡ Some (o, settled))
 
 -- A new ticket: the worker has taken the ticket's file, nothing of the hand is settled, and there is room for one more
 -- event for each item and for two besides.
-pub record HandsOut {P N T : Type 0} (b : Book P N T) (worker : ℕ) (old new : LedgerView P N) (t : TicketView P T) : Type 0 where
+pub record HandsOut {P N T : Type 0} (b : Book P N T) (worker : ℕ) (old new : LedgerView P N T) (t : TicketView P T) : Type 0 where
   pub did : Does b (Take worker t.file) old new
   pub by_worker : t.worker ≡ worker
   pub fits : Fits new.state t
@@ -67,7 +67,7 @@ pub record CanSettle {P N T : Type 0} (b : Book P N T) (s : CoreState P N) (t : 
   pub assumed : (q : P) → v ≡ Delegated q → IsAssumed s item.fun q
 
 -- The item is settled, in the ledger and in the ticket, which goes on to fit.
-pub record SettlesItem {P N T : Type 0} (b : Book P N T) (k : ℕ) (v : Verdict P N) (t u : TicketView P T) (old new : LedgerView P N) : Type 0 where
+pub record SettlesItem {P N T : Type 0} (b : Book P N T) (k : ℕ) (v : Verdict P N) (t u : TicketView P T) (old new : LedgerView P N T) : Type 0 where
   pub item : Obl P
   pub open_item : IsOpenAt t k item
   pub did : Does b (Settle t.file item v) old new
@@ -82,7 +82,7 @@ pub record CanPost {P N T : Type 0} (b : Book P N T) (s : CoreState P N) (t : Ti
   pub verdict : b.verdict_of item ≡ Delegated q
 
 -- The predicate is posted for the item, and the ticket goes on to fit.
-pub record PostsItem {P N T : Type 0} (b : Book P N T) (k : ℕ) (q : P) (t : TicketView P T) (old new : LedgerView P N) : Type 0 where
+pub record PostsItem {P N T : Type 0} (b : Book P N T) (k : ℕ) (q : P) (t : TicketView P T) (old new : LedgerView P N T) : Type 0 where
   pub item : Obl P
   pub open_item : IsOpenAt t k item
   pub did : Does b (Post t.file item q) old new

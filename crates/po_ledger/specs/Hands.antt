@@ -48,18 +48,18 @@ pub record KeepsItems {P T : Type 0} (old new : TicketView P T) : Type 0 where
   pub tables : new.tables ≡ old.tables
 
 -- Each item of the hand is settled, one after the other in its order, and nothing else happened.
-pub record SettlesHand {P N T : Type 0} (b : Book P N T) (t u : TicketView P T) (old new : LedgerView P N) : Type 0 where
+pub record SettlesHand {P N T : Type 0} (b : Book P N T) (t u : TicketView P T) (old new : LedgerView P N T) : Type 0 where
   pub settled : IsSettledUpTo u.hand (length u.hand)
   pub appends : new.journal ≡ old.journal ++ flat_map (settling b t.file) (items_of t.hand)
 
 -- The item at a place can be settled with a verdict, for which was posted what has to be.
-pub record PostsBefore {P N T : Type 0} (b : Book P N T) (k : ℕ) (v : Verdict P N) (t : TicketView P T) (old new : LedgerView P N) : Type 0 where
+pub record PostsBefore {P N T : Type 0} (b : Book P N T) (k : ℕ) (v : Verdict P N) (t : TicketView P T) (old new : LedgerView P N T) : Type 0 where
   pub can : CanSettle b new.state t k v
   pub hands : KeepsHands old.state new.state
   pub appends : new.journal ≡ old.journal ++ posting t.file can.item v
 
 -- The item at a place is settled, after what has to be posted for it.
-pub record SettlesPlace {P N T : Type 0} (b : Book P N T) (k : ℕ) (t u : TicketView P T) (old new : LedgerView P N) : Type 0 where
+pub record SettlesPlace {P N T : Type 0} (b : Book P N T) (k : ℕ) (t u : TicketView P T) (old new : LedgerView P N T) : Type 0 where
   pub item : Obl P
   pub open_item : IsOpenAt t k item
   pub ticket : u ≡ record t { hand = slice_set t.hand k (item, true) }
@@ -68,7 +68,7 @@ pub record SettlesPlace {P N T : Type 0} (b : Book P N T) (k : ℕ) (t u : Ticke
   pub appends : new.journal ≡ old.journal ++ settling b t.file item
 
 -- The items of the hand up to a place are settled, and the ticket goes on to fit.
-pub record SettlesFront {P N T : Type 0} (b : Book P N T) (k : ℕ) (t u : TicketView P T) (old new : LedgerView P N) : Type 0 where
+pub record SettlesFront {P N T : Type 0} (b : Book P N T) (k : ℕ) (t u : TicketView P T) (old new : LedgerView P N T) : Type 0 where
   pub ticket : KeepsItems t u
   pub settled : IsSettledUpTo u.hand k
   pub fits : Fits new.state u

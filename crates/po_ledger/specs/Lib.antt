@@ -6,3 +6,5 @@ pub mod Answers
 pub mod Hands
 pub mod Indexed
 pub mod Verdicts
+pub mod Made
+pub mod Shelves

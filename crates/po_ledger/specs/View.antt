@@ -12,11 +12,13 @@ use Rattle.po_core.specs.declared.event.Mark.TheVariants.{Taken}
 use Rattle.po_core.specs.declared.obl.Obl.{Obl}
 use Rattle.po_core.specs.declared.obl.Verdict.{Verdict}
 
--- A ledger: its core state, the events that led to it, and for how many more there is room.
-pub record LedgerView (P N : Type 0) : Type 0 where
+-- A ledger: its core state, the events that led to it, for how many more there is room, and for each file by its number the
+-- tables that are kept for it.
+pub record LedgerView (P N T : Type 0) : Type 0 where
   pub state : CoreState P N
   pub journal : List (Event P N)
   pub spare : ℕ
+  pub tables : List (List (FunNo × T))
 
 -- A ticket: which worker holds which file, each obligation of its hand and whether it is settled, and the tables that
 -- are at hand.
@@ -36,7 +38,7 @@ IsRoomFor {P} s spare = (unsettled : List (Obl P)) (held : List FileNo) → AreA
 
 -- What is true of each ledger over a book: its journal is legal from the start and replays to its state, and there is
 -- room for the events by which all that is held can be settled and given back.
-pub record IsLedger {P N T : Type 0} (b : Book P N T) (l : LedgerView P N) : Type 0 where
+pub record IsLedger {P N T : Type 0} (b : Book P N T) (l : LedgerView P N T) : Type 0 where
   pub replays : Replays b l.journal l.state
   pub room : IsRoomFor l.state l.spare
 
@@ -64,7 +66,7 @@ pub record IsTicket {P N T : Type 0} (b : Book P N T) (hand : List (Obl P × Boo
 
 -- What a ledger's fields keep: the book is the one that the type names, no obligation and no assumption stands twice,
 -- each file has its place, and each table that is kept is right.
-pub record IsKept {P N T : Type 0} (named of_book : Book P N T) (l : LedgerView P N) (shelves : List (List (FunNo × T))) : Type 0 where
+pub record IsKept {P N T : Type 0} (named of_book : Book P N T) (l : LedgerView P N T) (shelves : List (List (FunNo × T))) : Type 0 where
   pub same_book : of_book ≡ named
   pub ledger : IsLedger named l
   pub apart : AreApart (map (λ e. e.0) l.state.marks)
@@ -74,5 +76,5 @@ pub record IsKept {P N T : Type 0} (named of_book : Book P N T) (l : LedgerView 
   pub shelved : (at : ℕ) (tables : List (FunNo × T)) → slice_get shelves at ≡ Some tables → AreTables named tables
 
 -- what a ledger's lists show
-abbrev pub view_of : {P N : Type 0} → List (Obl P × Mark P N) → List (Option (Hand P)) → List (FunNo × P) → List (Event P N) → ℕ → LedgerView P N
-view_of marks hands assumed journal spare = record { state = record { marks = marks; hands = hands; assumed = assumed }; journal = journal; spare = spare }
+abbrev pub view_of : {P N T : Type 0} → List (Obl P × Mark P N) → List (Option (Hand P)) → List (FunNo × P) → List (Event P N) → ℕ → List (List (FunNo × T)) → LedgerView P N T
+view_of marks hands assumed journal spare tables = record { state = record { marks = marks; hands = hands; assumed = assumed }; journal = journal; spare = spare; tables = tables }

@@ -8,6 +8,7 @@ ghost use Rattle.po_core.specs.declared.obl.Verdict.TheVariants.{Delegated};
 ghost use Rattle.po_ledger.specs.Calls.{IsNew, Does, HandsOut, CanPost, PostsItem, CanSettle, SettlesItem, CanGive};
 ghost use Rattle.po_core.specs.Least.{IsLeastReport};
 ghost use Rattle.po_ledger.specs.Answers.{Answers, Reports};
+ghost use Rattle.po_ledger.specs.Shelves.{AnswersTables, HandsTables};
 ghost use Rattle.po_ledger.specs.View.{Fits, IsLedger};
 
 use crate::assumed::Assumed;
@@ -24,8 +25,9 @@ use crate::parts::{
 use crate::report::{
     ascending_assumptions, ascending_lines, held_count, is_some_left, untaken_count,
 };
+use crate::shelf::Tables;
 use crate::ticket::Ticket;
-use po_base::{FileNo, FunNo, List, Memory};
+use po_base::{FileNo, Memory};
 use po_core::{
     Event, Hand, Journal, Obl, Report, Rulebook, Verdict, legal_lists_are_orderly,
     quiet_lists_are_least,
@@ -47,7 +49,7 @@ pub struct Ledger<'r, R: Rulebook, J: Naming<R::Pred, R::Rule, R::Table>> {
     marks: Known<R::Pred, R::Rule>,
     hands: Vec<Option<Hand<R::Pred>>>,
     assumed: Assumed<R::Pred>,
-    shelves: Vec<List<(FunNo, R::Table)>>,
+    shelves: Vec<Tables<R::Table>>,
     journal: Log<R::Pred, R::Rule>,
     named: PhantomData<J>,
 }
@@ -55,11 +57,11 @@ pub struct Ledger<'r, R: Rulebook, J: Naming<R::Pred, R::Rule, R::Table>> {
 impl<'r, R: Rulebook, J: Naming<R::Pred, R::Rule, R::Table>> Model for Ledger<'r, R, J> {
     ghost use Rattle.po_ledger.specs.View.{LedgerView, view_of, IsKept};
 
-    ghost Value = { LedgerView R.Pred R.Rule };
+    ghost Value = { LedgerView R.Pred R.Rule R.Table };
 
-    ghost view = { λ l. view_of l.marks.items l.hands.items l.assumed.items l.journal.items l.journal.spare };
+    ghost view = { λ l. view_of l.marks.items l.hands.items l.assumed.items l.journal.items l.journal.spare l.shelves.items };
 
-    ghost invariant = { λ l. IsKept J.book (R.meaning l.book.now) (view_of l.marks.items l.hands.items l.assumed.items l.journal.items l.journal.spare) l.shelves.items };
+    ghost invariant = { λ l. IsKept J.book (R.meaning l.book.now) (view_of l.marks.items l.hands.items l.assumed.items l.journal.items l.journal.spare l.shelves.items) l.shelves.items };
 }
 
 impl<'r, R: Rulebook, J: Naming<R::Pred, R::Rule, R::Table>> Ledger<'r, R, J> {
@@ -140,6 +142,7 @@ impl<'r, R: Rulebook, J: Naming<R::Pred, R::Rule, R::Table>> Ledger<'r, R, J> {
     pub fn take(&mut self, alloc: Global, worker: u8) -> Result<Next<R, J>, Memory>
         ensures ok { IfOk result (Answers J.book worker self.old self.new) }
         ensures err { OnErr result (self.new ≡ self.old) }
+        ensures tables { IfOk result (AnswersTables self.old self.new) }
     {
         match self.find_file() {
             Some(file) => {
@@ -218,6 +221,7 @@ impl<'r, R: Rulebook, J: Naming<R::Pred, R::Rule, R::Table>> Ledger<'r, R, J> {
         requires { CanTake J.book self.old.state file }
         ensures ok { IfOk result (HandsOut J.book worker self.old self.new) }
         ensures err { OnErr result (self.new ≡ self.old) }
+        ensures tables { IfOk result (HandsTables self.old self.new) }
     {
         legal_lists_are_orderly(self.book);
         let items = untaken_of(alloc, self.book, self.marks.left(), file)?;
@@ -228,7 +232,7 @@ impl<'r, R: Rulebook, J: Naming<R::Pred, R::Rule, R::Table>> Ledger<'r, R, J> {
         change(self.book, &mut self.marks, &Remark::Take(file));
         append(&mut self.journal, Event::Take { worker, file });
         set_hand(&mut self.hands, file, Some(Hand { worker, items }));
-        let tables = swap_shelf(&mut self.shelves, file, List::new(alloc));
+        let tables = swap_shelf(&mut self.shelves, file, Tables::new(alloc));
         Ok(Ticket {
             worker,
             file,
@@ -244,6 +248,7 @@ impl<'r, R: Rulebook, J: Naming<R::Pred, R::Rule, R::Table>> Ledger<'r, R, J> {
         requires { IsLegal J.book self.old.state (Ask worker done) }
         ensures ok { OnOk result (Does J.book (Ask worker done) self.old self.new) }
         ensures err { OnErr result (self.new ≡ self.old) }
+        ensures tables { self.new.tables ≡ self.old.tables }
     {
         make_room(&mut self.journal, 0, 1)?;
         append(&mut self.journal, Event::Ask { worker, done });
@@ -266,6 +271,7 @@ impl<'r, R: Rulebook, J: Naming<R::Pred, R::Rule, R::Table>> Ledger<'r, R, J> {
         ensures ok { OnOk result (PostsItem J.book k q.now t.old self.old self.new) }
         ensures err { OnErr result (self.new ≡ self.old) }
         ensures ticket { t.new ≡ t.old }
+        ensures tables { self.new.tables ≡ self.old.tables }
     {
         legal_lists_are_orderly(self.book);
         let obl = *t.item(k);
@@ -319,7 +325,8 @@ impl<'r, R: Rulebook, J: Naming<R::Pred, R::Rule, R::Table>> Ledger<'r, R, J> {
     /// file. It takes no memory, and constant time beside letting go what the file's place held.
     pub fn give(&mut self, t: Ticket<R, J>)
         requires { CanGive self.old.state t }
-        ensures { Does J.book (Give t.worker t.file) self.old self.new }
+        ensures does { Does J.book (Give t.worker t.file) self.old self.new }
+        ensures tables { self.new.tables ≡ slice_set self.old.tables t.file.0 t.tables }
     {
         legal_lists_are_orderly(self.book);
         let worker = t.worker();

@@ -15,6 +15,7 @@ mod parts;
 mod places;
 mod report;
 mod settling;
+mod shelf;
 mod ticket;
 
 pub use ledger::Ledger;

@@ -2,6 +2,7 @@ use crate::naming::Naming;
 use crate::ticket::Ticket;
 use po_base::Memory;
 use po_core::Rulebook;
+use thiserror::Error;
 
 /// What a ledger answers a worker that asks for work.
 #[derive(Drop)]
@@ -15,10 +16,13 @@ pub enum Next<R: Rulebook, J: Naming<R::Pred, R::Rule, R::Table>> {
 }
 
 /// Why a ledger gives no report.
-#[derive(Clone, Copy, Debug, PartialEq, Eq)]
+#[derive(Clone, Copy, Debug, PartialEq, Eq, Error)]
 pub enum ReportFail {
     /// Work is left: how many files are held, and how many obligations are untaken.
+    #[error("not all is done: {held} files are held, and {untaken} obligations are untaken")]
     NotQuiet { held: u32, untaken: u64 },
+    /// Memory was wanting.
+    #[error("out of memory")]
     Memory,
 }
 

@@ -11,6 +11,7 @@ ghost use Rattle.po_ledger.specs.Parts.{HasKey, AddsEach, TakesFrom, HandAt, Non
 use crate::assumed::{Assumed, assume};
 use crate::known::{Known, add_supports};
 use crate::log::{Log, make_room, take_room};
+use crate::shelf::Tables;
 use po_base::{FileNo, FunNo, List, Memory, NodeNo};
 use po_core::{Hand, Mark, Obl, Rulebook};
 use std::alloc::Global;
@@ -224,15 +225,12 @@ pub(crate) fn no_hands<P: Copy>(alloc: Global, files: u32) -> Result<Vec<Option<
 }
 
 /// A place for each file, for the tables of its functions.
-pub(crate) fn empty_shelves<T: Drop>(
-    alloc: Global,
-    files: u32,
-) -> Result<Vec<List<(FunNo, T)>>, Memory>
+pub(crate) fn empty_shelves<T: Drop>(alloc: Global, files: u32) -> Result<Vec<Tables<T>>, Memory>
     ensures { IfOk result (λ shelves. shelves.items ≡ replicate files []) }
 {
     let mut shelves = Vec::new(alloc);
     for made in 0..files {
-        match shelves.push(List::new(alloc)) {
+        match shelves.push(Tables::new(alloc)) {
             Ok(()) => {}
             Err(_) => return Err(Memory),
         }
@@ -254,10 +252,10 @@ pub(crate) fn set_hand<P: Copy>(
 
 /// Puts tables to a file's place, and hands out those that were there.
 pub(crate) fn swap_shelf<T: Drop>(
-    shelves: &mut Vec<List<(FunNo, T)>>,
+    shelves: &mut Vec<Tables<T>>,
     file: FileNo,
-    tables: List<(FunNo, T)>,
-) -> List<(FunNo, T)>
+    tables: Tables<T>,
+) -> Tables<T>
     requires { file.0 < length shelves.old.items }
     ensures after { shelves.new.items ≡ slice_set shelves.old.items file.0 tables }
     ensures before { slice_get shelves.old.items file.0 ≡ Some result }

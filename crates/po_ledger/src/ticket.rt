@@ -1,15 +1,15 @@
-ghost use Rattle.std.specs.Prelude.{◌≡◌, ◌<◌, ◌≤◌, length, insert, slice_set, true, ◌↔◌, IsTrue, IfOk, IfErr, OnOk, OnErr, Some, slice_get};
-ghost use Rattle.std.specs.List.{Contains};
+ghost use Rattle.std.specs.Prelude.{◌≡◌, ◌<◌, length, slice_set, true, IfOk, Some, slice_get};
 ghost use Rattle.po_core.specs.declared.obl.Obl.{Obl};
 ghost use Rattle.po_ledger.specs.Calls.{IsItemAt, KeepsTicket, Judges};
+ghost use Rattle.po_ledger.specs.Made.{AddsTable, HasTable};
 ghost use Rattle.po_ledger.specs.View.{AreTables};
 
 use crate::naming::Naming;
+use crate::shelf::Tables;
 use po_base::{FileNo, FunNo, List, Memory};
 use po_core::{Obl, Rulebook, Verdict};
 use std::alloc::Global;
 use std::marker::{Model, PhantomData};
-use std::mem;
 
 /// The work that a worker holds: a file, the obligations that were taken with it, which of them are settled,
 /// and the tables of functions that were made so far. It can't be copied.
@@ -19,7 +19,7 @@ pub struct Ticket<R: Rulebook, J: Naming<R::Pred, R::Rule, R::Table>> {
     pub(crate) file: FileNo,
     pub(crate) hand: List<(Obl<R::Pred>, bool)>,
     pub(crate) places: List<usize>,
-    pub(crate) tables: List<(FunNo, R::Table)>,
+    pub(crate) tables: Tables<R::Table>,
     pub(crate) named: PhantomData<J>,
 }
 
@@ -80,8 +80,9 @@ impl<R: Rulebook, J: Naming<R::Pred, R::Rule, R::Table>> Ticket<R, J> {
     }
 
     /// The tables that were made so far, each that of its function.
-    pub(crate) fn into_tables(self) -> List<(FunNo, R::Table)>
-        ensures { AreTables J.book result }
+    pub(crate) fn into_tables(self) -> Tables<R::Table>
+        ensures right { AreTables J.book result }
+        ensures all { result ≡ self.tables }
     {
         let Ticket { tables, .. } = self;
         tables
@@ -97,9 +98,8 @@ impl<R: Rulebook, J: Naming<R::Pred, R::Rule, R::Table>> Ticket<R, J> {
     }
 
     /// The verdict of the obligation at a place of its hand. The table of the obligation's function is made where
-    /// the ticket doesn't have it yet, and stays with the ticket; nothing else of the ticket changes. Beside the
-    /// making of a table it takes time in the logarithm of the number of tables, and to put a new one among others that
-    /// of the functions that come after its function.
+    /// the ticket doesn't have it yet, and only there, and stays with the ticket; nothing else of the ticket changes.
+    /// Beside the making of a table it takes constant time on the average.
     pub fn verdict(
         &mut self,
         alloc: Global,
@@ -110,6 +110,7 @@ impl<R: Rulebook, J: Naming<R::Pred, R::Rule, R::Table>> Ticket<R, J> {
         requires within { k < length self.old.hand }
         ensures value { IfOk result (Judges J.book self.old k) }
         ensures same { KeepsTicket self.old self.new }
+        ensures tables { (o : Obl R.Pred) → IsItemAt self.old k o → AddsTable o.fun self.old.tables self.new.tables }
     {
         let obl = *self.item(k);
         let at = table_place(alloc, book, &mut self.tables, obl.fun)?;
@@ -117,62 +118,43 @@ impl<R: Rulebook, J: Naming<R::Pred, R::Rule, R::Table>> Ticket<R, J> {
     }
 }
 
-/// Whether a table is that of a function.
-fn is_table_of<T>(entry: &(FunNo, T), f: FunNo) -> bool
-    ensures { IsTrue result ↔ (entry.now.0 ≡ f) }
-{
-    entry.0 == f
-}
-
-/// Where a function's table stands among some tables, or else where it belongs. Tables are kept in the order of their
-/// functions, which makes the search take time in the logarithm of their number; no answer rests on it.
-fn find_table<T: Drop>(tables: &List<(FunNo, T)>, f: FunNo) -> Result<usize, usize>
-    ensures found { IfOk result (λ at. (table : T) × (slice_get tables.now at ≡ Some (f, table))) }
-    ensures within { IfErr result (λ at. at ≤ length tables.now) }
-{
-    let all = tables.as_slice();
-    let at = all.partition_point(|entry| entry.0 < f);
-    if at < all.len() && is_table_of(&all[at], f) {
-        return Ok(at);
-    }
-    Err(at)
-}
-
-/// Puts an item at a place, before those from there on. After `Memory` nothing has changed.
-fn insert_at<T: Drop>(alloc: Global, items: &mut List<T>, at: usize, item: T) -> Result<(), Memory>
-    requires { at ≤ length items.old }
-    ensures ok { OnOk result (items.new ≡ insert items.old at item) }
-    ensures err { OnErr result (items.new ≡ items.old) }
-{
-    let mut all = mem::replace(items, List::new(alloc)).into_vec();
-    let inserted = all.insert(at, item);
-    *items = List::from_vec(all);
-    match inserted {
-        Ok(()) => Ok(()),
-        Err(_) => Err(Memory),
-    }
-}
-
 /// The place of a function's table among some tables, where it is made if it isn't there.
 fn table_place<R: Rulebook>(
     alloc: Global,
     book: &R,
-    tables: &mut List<(FunNo, R::Table)>,
+    tables: &mut Tables<R::Table>,
     f: FunNo,
 ) -> Result<usize, Memory>
     requires there { f.0 < (R.meaning book.now).functions }
     requires right { AreTables (R.meaning book.now) tables.old }
     ensures right { AreTables (R.meaning book.now) tables.new }
     ensures found { IfOk result (λ at. (table : R.Table) × (slice_get tables.new at ≡ Some (f, table))) }
+    ensures adds { AddsTable f tables.old tables.new }
 {
-    match find_table(tables, f) {
-        Ok(at) => Ok(at),
-        Err(at) => {
-            let table = book.table(alloc, f)?;
-            insert_at(alloc, tables, at, (f, table))?;
-            Ok(at)
-        }
+    match tables.place(f) {
+        Some(at) => Ok(at),
+        None => make_table(alloc, book, tables, f),
     }
+}
+
+/// Makes a function's table, where it has none, and tells its place.
+fn make_table<R: Rulebook>(
+    alloc: Global,
+    book: &R,
+    tables: &mut Tables<R::Table>,
+    f: FunNo,
+) -> Result<usize, Memory>
+    requires there { f.0 < (R.meaning book.now).functions }
+    requires right { AreTables (R.meaning book.now) tables.old }
+    requires none { ¬ HasTable tables.old f }
+    ensures right { AreTables (R.meaning book.now) tables.new }
+    ensures found { IfOk result (λ at. (table : R.Table) × (slice_get tables.new at ≡ Some (f, table))) }
+    ensures adds { AddsTable f tables.old tables.new }
+{
+    let table = book.table(alloc, f)?;
+    let at = tables.len();
+    tables.put(f, table)?;
+    Ok(at)
 }
 
 /// A verdict that is read from the table at a place.
@@ -180,13 +162,12 @@ fn verdict_at<R: Rulebook>(
     alloc: Global,
     book: &R,
     obl: &Obl<R::Pred>,
-    tables: &List<(FunNo, R::Table)>,
+    tables: &Tables<R::Table>,
     at: usize,
 ) -> Result<Verdict<R::Pred, R::Rule>, Memory>
     requires right { AreTables (R.meaning book.now) tables.now }
     requires found { (table : R.Table) × (slice_get tables.now at ≡ Some (obl.now.fun, table)) }
     ensures { IfOk result (λ v. v ≡ (R.meaning book.now).verdict_of obl.now) }
 {
-    let entry = &tables.as_slice()[at];
-    book.verdict(alloc, obl, &entry.1)
+    book.verdict(alloc, obl, tables.table(at))
 }

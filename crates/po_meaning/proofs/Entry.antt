@@ -39,7 +39,7 @@ has_value g caller Ptr (operand.Reg r) v lies is = is
 has_value g caller Ptr (operand.Num n) v lies is = inr (lies, same_value Null v is)
 
 -- the operands lie in the types of the parameters, where there are any
-abbrev LieIn : Graph → List Ty → List Opnd → Type 0
+abbrev pub LieIn : Graph → List Ty → List Opnd → Type 0
 LieIn g types args = (t : Ty) (rest : List Ty) → types ≡ t ∷ rest → Passes g false types args
 
 passed : (g : Graph) (caller : Frame) (types : List Ty) (args : List Opnd) (values : List Value) → LieIn g types args → ArePassed caller types args values → AllZip (HasValue caller) args values
@@ -63,7 +63,7 @@ no_types f t rest none some =
 fits_at : (x : Option Function) (P : Function → Type 0) (callee : Function) → x ≡ Some callee → MatchOption x ⊥ P → P callee
 fits_at x P callee there given = subst (λ (o : Option Function). MatchOption o ⊥ P) there given
 
-lie_in : (library : List Signature) (p : Project) (f : Function) (to : Option RegNo) (n : FunNo) (args : List Opnd) (strings : List ℕ) (caller : Frame) (callee : Function) →
+pub lie_in : (library : List Signature) (p : Project) (f : Function) (to : Option RegNo) (n : FunNo) (args : List Opnd) (strings : List ℕ) (caller : Frame) (callee : Function) →
     IsWhole library p → StandsAt p caller f (Call to (Fun n) args strings) → slice_get p.functions n.0 ≡ Some callee → LieIn f.graph (parameter_types callee) args
 lie_in library p f to n args strings caller callee whole stands there t rest same =
     let fits : FunctionFits library p f = at_place (FunctionFits library p) p.functions caller.function.0 f whole.functions stands.of in

@@ -116,7 +116,7 @@ module _ (f : Function) (fr : Frame) (to : RegNo) (v : Value) (register : Regist
     slots = λ s needs. k.slots s (slot_before f.graph s fr.node.0 (fr.node.0 + 1) i at next (some_not_none (entered i) s none) needs);
   }
 
-told_at : {X : Type 0} (o : Option X) (P : X → Type 0) (x : X) → o ≡ Some x → MatchOption o ⊥ P → P x
+pub told_at : {X : Type 0} (o : Option X) (P : X → Type 0) (x : X) → o ≡ Some x → MatchOption o ⊥ P → P x
 told_at o P x is given = subst (λ (r : Option _). MatchOption r ⊥ P) is given
 
 module _ (f : Function) (fr : Frame) (r : RegNo) (variable : IsVariable f.graph (Some r)) (inside : r.0 < length f.graph.regs) (k : Fits f fr) where

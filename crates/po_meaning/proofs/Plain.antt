@@ -37,7 +37,7 @@ use Rattle.po_memory.specs.declared.value.Value.TheVariants.{Number, Null, Point
 use Rattle.po_memory.specs.Blocks.{IsOfWidth}
 use Rattle.po_memory.specs.Bytes.{LiesIn}
 use Rattle.po_memory.specs.Values.{register_value}
-use Rattle.po_gen.specs.IntTypes.{IsTypeOfTarget, types_in, HasTypesOfTarget, AreTypesOfTarget}
+use Rattle.po_ir.specs.IntTypes.{IsTypeOfTarget, types_in, HasTypesOfTarget}
 use Rattle.po_meaning.specs.Operands.{pointer_value, as_value, at_node, put, without_value}
 use Rattle.po_meaning.specs.States.{State, IsOf, StandsAt}
 use Rattle.po_meaning.specs.Local.{IsDistance, Local}
@@ -123,7 +123,7 @@ arrives p u now rest m top below memory belongs =
     (subst (λ (l : List Frame). Belongs p (state now l u.memory)) (sym below)
     (subst (λ (l : List Block). Belongs p (state now rest l)) (sym memory) belongs))
 
-module _ (of_type : ResultsAreOfType) (cover : (o : Op) → BinMembersCover o) (library : List Signature) (p : Project) (f : Function) (s u : State) (whole : IsWhole library p) (types : AreTypesOfTarget p) (before : Belongs p s) (below : u.rest ≡ s.rest) where
+module _ (of_type : ResultsAreOfType) (cover : (o : Op) → BinMembersCover o) (library : List Signature) (p : Project) (f : Function) (s u : State) (whole : IsWhole library p) (before : Belongs p s) (below : u.rest ≡ s.rest) where
   fits_in : IsOf p s.top f → FunctionFits library p f
   fits_in of = at_place (FunctionFits library p) p.functions s.top.function.0 f whole.functions of
 
@@ -133,7 +133,7 @@ module _ (of_type : ResultsAreOfType) (cover : (o : Op) → BinMembersCover o) (
   -- the types at which the instruction computes
   types_of : (i : Instr) → StandsAt p s.top f i → All IsTypeOfTarget (types_in i)
   types_of i stands =
-      let all : HasTypesOfTarget f.graph = at_place (λ (g : Function). HasTypesOfTarget g.graph) p.functions s.top.function.0 f types stands.of in
+      let all : HasTypesOfTarget f.graph = (fits_in stands.of).types in
       subst (λ (j : Instr). All IsTypeOfTarget (types_in j)) stands.node.2 (at_place (λ (n : Node). All IsTypeOfTarget (types_in n.instr)) f.graph.nodes s.top.node.0 stands.node.0 all.instructions stands.node.1)
 
   -- a register gets a value, and the blocks stay
@@ -270,26 +270,26 @@ module _ (of_type : ResultsAreOfType) (cover : (o : Op) → BinMembersCover o) (
       points_left j w has (inr other) = (points_before p f s stands.of before).registers j w (sym (without_others s.top r j other) ∙ has)
 
 pub plain_steps_stay : ResultsAreOfType → ((o : Op) → BinMembersCover o) → PlainStepsStay
-plain_steps_stay of_type cover library p f (Const to value) s u whole types stands plain step below before = const_stays of_type cover library p f s u whole types before below to value stands step
-plain_steps_stay of_type cover library p f (Copy to from) s u whole types stands plain step below before = copy_stays of_type cover library p f s u whole types before below to from stands step
-plain_steps_stay of_type cover library p f (Bin to o ty a b) s u whole types stands plain step below before = bin_stays of_type cover library p f s u whole types before below to o ty a b stands step
-plain_steps_stay of_type cover library p f (Un to o t a) s u whole types stands plain step below before = un_stays of_type cover library p f s u whole types before below to o t a stands step
-plain_steps_stay of_type cover library p f (Conv to from ty align) s u whole types stands plain step below before = conv_stays of_type cover library p f s u whole types before below to from ty align stands step
-plain_steps_stay of_type cover library p f (AddrSlot to n) s u whole types stands plain step below before = slot_stays of_type cover library p f s u whole types before below to n stands step
-plain_steps_stay of_type cover library p f (AddrGlobal to n) s u whole types stands plain step below before = global_stays of_type cover library p f s u whole types before below to n stands step
-plain_steps_stay of_type cover library p f (AddrStr to n) s u whole types stands plain step below before = literal_stays of_type cover library p f s u whole types before below to n stands step
-plain_steps_stay of_type cover library p f (PtrDiff to a b size) s u whole types stands plain step below before = difference_stays of_type cover library p f s u whole types before below to a b size stands step
-plain_steps_stay of_type cover library p f (Enter (variable.Reg r)) s u whole types stands plain step below before = register_stays of_type cover library p f s u whole types before below r stands step
-plain_steps_stay of_type cover library p f (If o ty a b one other) s u whole types stands plain step below before = if_stays of_type cover library p f s u whole types before below o ty a b one other stands step
-plain_steps_stay of_type cover library p f (Jump next) s u whole types stands plain step below before = jump_stays of_type cover library p f s u whole types before below next stands step
-plain_steps_stay of_type cover library p f (PtrAdd to base index factor) s u whole types stands plain step below before = absurd plain
-plain_steps_stay of_type cover library p f (Load to at access) s u whole types stands plain step below before = absurd plain
-plain_steps_stay of_type cover library p f (Store at value access) s u whole types stands plain step below before = absurd plain
-plain_steps_stay of_type cover library p f (CopyBytes to from size align) s u whole types stands plain step below before = absurd plain
-plain_steps_stay of_type cover library p f (Fill slot size) s u whole types stands plain step below before = absurd plain
-plain_steps_stay of_type cover library p f (Enter (variable.Slot n)) s u whole types stands plain step below before = absurd plain
-plain_steps_stay of_type cover library p f (Leave slot) s u whole types stands plain step below before = absurd plain
-plain_steps_stay of_type cover library p f (Call to callee args strings) s u whole types stands plain step below before = absurd plain
-plain_steps_stay of_type cover library p f (Lib to lib args strings) s u whole types stands plain step below before = absurd plain
-plain_steps_stay of_type cover library p f (Return value) s u whole types stands plain step below before = absurd plain
-plain_steps_stay of_type cover library p f (Never reason) s u whole types stands plain step below before = absurd plain
+plain_steps_stay of_type cover library p f (Const to value) s u whole stands plain step below before = const_stays of_type cover library p f s u whole before below to value stands step
+plain_steps_stay of_type cover library p f (Copy to from) s u whole stands plain step below before = copy_stays of_type cover library p f s u whole before below to from stands step
+plain_steps_stay of_type cover library p f (Bin to o ty a b) s u whole stands plain step below before = bin_stays of_type cover library p f s u whole before below to o ty a b stands step
+plain_steps_stay of_type cover library p f (Un to o t a) s u whole stands plain step below before = un_stays of_type cover library p f s u whole before below to o t a stands step
+plain_steps_stay of_type cover library p f (Conv to from ty align) s u whole stands plain step below before = conv_stays of_type cover library p f s u whole before below to from ty align stands step
+plain_steps_stay of_type cover library p f (AddrSlot to n) s u whole stands plain step below before = slot_stays of_type cover library p f s u whole before below to n stands step
+plain_steps_stay of_type cover library p f (AddrGlobal to n) s u whole stands plain step below before = global_stays of_type cover library p f s u whole before below to n stands step
+plain_steps_stay of_type cover library p f (AddrStr to n) s u whole stands plain step below before = literal_stays of_type cover library p f s u whole before below to n stands step
+plain_steps_stay of_type cover library p f (PtrDiff to a b size) s u whole stands plain step below before = difference_stays of_type cover library p f s u whole before below to a b size stands step
+plain_steps_stay of_type cover library p f (Enter (variable.Reg r)) s u whole stands plain step below before = register_stays of_type cover library p f s u whole before below r stands step
+plain_steps_stay of_type cover library p f (If o ty a b one other) s u whole stands plain step below before = if_stays of_type cover library p f s u whole before below o ty a b one other stands step
+plain_steps_stay of_type cover library p f (Jump next) s u whole stands plain step below before = jump_stays of_type cover library p f s u whole before below next stands step
+plain_steps_stay of_type cover library p f (PtrAdd to base index factor) s u whole stands plain step below before = absurd plain
+plain_steps_stay of_type cover library p f (Load to at access) s u whole stands plain step below before = absurd plain
+plain_steps_stay of_type cover library p f (Store at value access) s u whole stands plain step below before = absurd plain
+plain_steps_stay of_type cover library p f (CopyBytes to from size align) s u whole stands plain step below before = absurd plain
+plain_steps_stay of_type cover library p f (Fill slot size) s u whole stands plain step below before = absurd plain
+plain_steps_stay of_type cover library p f (Enter (variable.Slot n)) s u whole stands plain step below before = absurd plain
+plain_steps_stay of_type cover library p f (Leave slot) s u whole stands plain step below before = absurd plain
+plain_steps_stay of_type cover library p f (Call to callee args strings) s u whole stands plain step below before = absurd plain
+plain_steps_stay of_type cover library p f (Lib to lib args strings) s u whole stands plain step below before = absurd plain
+plain_steps_stay of_type cover library p f (Return value) s u whole stands plain step below before = absurd plain
+plain_steps_stay of_type cover library p f (Never reason) s u whole stands plain step below before = absurd plain

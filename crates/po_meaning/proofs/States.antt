@@ -16,7 +16,7 @@ use Rattle.po_meaning.proofs.Places.{All-tail}
 abbrev pub state : Frame → List Frame → List Block → State
 state top rest m = record { top = top; rest = rest; memory = m }
 
-some_same : {X : Type 0} (x y : X) → Some x ≡ Some y → y ≡ x
+pub some_same : {X : Type 0} (x y : X) → Some x ≡ Some y → y ≡ x
 some_same x y same = cc
 
 module _ (p : Project) (top now : Frame) (rest : List Frame) (m : List Block) (function : now.function ≡ top.function) (slots : now.slots ≡ top.slots) where

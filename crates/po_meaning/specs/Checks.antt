@@ -72,8 +72,11 @@ supports p r f n = flat_map (supports_in p f n) r.lines
 -- ---- all, and how they are checked
 
 -- the primary ones first, then the supporting ones
+abbrev pub asked_at : Required → Project → Report Pred Rule → FunNo → NodeNo → List Asked
+asked_at required p r f n = primaries required p f n ++ supports p r f n
+
 abbrev pub asked : Required → Project → Report Pred Rule → State → List Asked
-asked required p r s = primaries required p s.top.function s.top.node ++ supports p r s.top.function s.top.node
+asked required p r s = asked_at required p r s.top.function s.top.node
 
 -- all those before the place k hold
 abbrev pub HoldBefore : Required → Project → Report Pred Rule → State → ℕ → Type 0

@@ -18,7 +18,6 @@ use Rattle.po_pred.specs.Subst.{put_in}
 use Rattle.po_memory.specs.Holding.{Holds}
 use Rattle.po_memory.specs.Passing.{IsPointerPlace, IsNumberPlace, PlacesAre}
 use Rattle.po_gen.specs.Asks.{Required}
-use Rattle.po_gen.specs.IntTypes.{AreTypesOfTarget}
 use Rattle.po_meaning.specs.States.{State, StandsAt}
 use Rattle.po_meaning.specs.Local.{Local}
 use Rattle.po_meaning.specs.Steps.{Enters}
@@ -59,5 +58,5 @@ IsPlain _ = ⊥
 -- a step of such an instruction from a state that belongs to a whole project leads to one that belongs to it
 abbrev pub PlainStepsStay : Type 0
 PlainStepsStay =
-    (library : List Signature) (p : Project) (f : Function) (i : Instr) (s u : State) → IsWhole library p → AreTypesOfTarget p → StandsAt p s.top f i → IsPlain i →
+    (library : List Signature) (p : Project) (f : Function) (i : Instr) (s u : State) → IsWhole library p → StandsAt p s.top f i → IsPlain i →
     Local p f.graph i s.top s.memory u.top u.memory → u.rest ≡ s.rest → Belongs p s → Belongs p u

@@ -10,3 +10,5 @@ pub mod Needs
 pub mod Belongs
 pub mod Shown
 pub mod Laws
+pub mod Staying
+pub mod Following

@@ -1,7 +1,7 @@
 -- Steps, runs and their ends.
-use Rattle.std.specs.Prelude.{ℕ, zero, suc, ◌≡◌, ◌⊎◌, List, []}
+use Rattle.std.specs.Prelude.{ℕ, zero, suc, ◌≡◌, ◌⊎◌, List}
 use Rattle.po_ir.specs.declared.instr.Instr.{Instr}
-use Rattle.po_ir.specs.declared.instr.Instr.TheVariants.{Lib, Return}
+use Rattle.po_ir.specs.declared.instr.Instr.TheVariants.{Lib}
 use Rattle.po_ir.specs.declared.project.Function.{Function}
 use Rattle.po_ir.specs.declared.project.Project.{Project}
 use Rattle.po_core.specs.declared.obl.Obl.{Obl}
@@ -11,7 +11,7 @@ use Rattle.po_pred.specs.declared.pred.Pred.{Pred}
 use Rattle.po_pred.specs.declared.pred.Rule.{Rule}
 use Rattle.po_meaning.specs.Library.{Library, stops}
 use Rattle.po_meaning.specs.States.{State, StandsAt}
-use Rattle.po_meaning.specs.Steps.{LibraryEnds, StepOf}
+use Rattle.po_meaning.specs.Steps.{LibraryEnds, StepOf, IsLast}
 use Rattle.po_meaning.specs.Checks.{AllHold, FirstViolated}
 
 -- one step: all obligations at the node hold, and the instruction goes on
@@ -29,9 +29,8 @@ Run l p r (suc n) s u = (v : State) × Step l p r s v × Run l p r n v u
 
 -- an instruction at which the run ends: a return for which no frame waits, and a library call that stops it (6.8.6.4, 7.20.4)
 abbrev pub IsEnd : Library → Instr → State → Type 0
-IsEnd l (Return value) s = s.rest ≡ []
 IsEnd l (Lib to lib args strings) s = (after : List Block) × LibraryEnds l lib args s stops after
-IsEnd l i s = ⊥
+IsEnd l i s = IsLast i s
 
 -- the run ends here: all obligations hold
 pub record Ends (l : Library) (p : Project) (r : Report Pred Rule) (s : State) : Type 0 where

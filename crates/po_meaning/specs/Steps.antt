@@ -75,11 +75,22 @@ pub record LibraryReturns (l : Library) (to : Option RegNo) (lib : LibNo) (args 
   pub top : u.top ≡ receive to result s.top
   pub rest : u.rest ≡ s.rest
 
--- from the state s, whose running frame is one of the function f and stands at the instruction, the state u may follow
+-- from the state s, whose running frame is one of the function f and stands at the instruction, the state u may follow; no library
+-- function is called
+abbrev pub Moves : Project → Function → Instr → State → State → Type 0
+Moves p f (Call to (Fun n) args strings) s u = Enters p n args s u
+Moves p f (Call to (Undefined name) args strings) s u = ⊥
+Moves p f (Lib to lib args strings) s u = ⊥
+Moves p f (Return value) s u = Returns p f value s u
+Moves p f (Never reason) s u = ⊥
+Moves p f i s u = Local p f.graph i s.top s.memory u.top u.memory × (u.rest ≡ s.rest)
+
+-- the state u may follow
 abbrev pub StepOf : Library → Project → Function → Instr → State → State → Type 0
-StepOf l p f (Call to (Fun n) args strings) s u = Enters p n args s u
-StepOf l p f (Call to (Undefined name) args strings) s u = ⊥
 StepOf l p f (Lib to lib args strings) s u = LibraryReturns l to lib args s u
-StepOf l p f (Return value) s u = Returns p f value s u
-StepOf l p f (Never reason) s u = ⊥
-StepOf l p f i s u = Local p f.graph i s.top s.memory u.top u.memory × (u.rest ≡ s.rest)
+StepOf l p f i s u = Moves p f i s u
+
+-- a return for which no frame waits ends the run (6.8.6.4p3, 5.1.2.2.3p1)
+abbrev pub IsLast : Instr → State → Type 0
+IsLast (Return value) s = s.rest ≡ []
+IsLast i s = ⊥

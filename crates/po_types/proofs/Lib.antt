@@ -1,5 +1,9 @@
 mod Large
 mod OneSpelling
+mod Nested
+mod Spells
+mod FormatPieces
+mod FormatsRead
 mod OneLayout
 mod Promoting
 mod Lays

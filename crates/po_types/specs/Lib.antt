@@ -2,8 +2,12 @@ pub mod formers
 pub mod Integers
 pub mod Types
 pub mod Tables
+pub mod Environments
 pub mod Layouts
 pub mod Spelling
+pub mod Nesting
+pub mod NestingLaws
 pub mod Formats
+pub mod FormatReading
 pub mod TypesLaws
 pub mod Laws

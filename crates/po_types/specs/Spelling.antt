@@ -1,5 +1,5 @@
 -- How a type is spelled, by which types of two files are compared.
-use Rattle.std.specs.Prelude.{ℕ, ◌≡◌, Bool, true, false, cond, List, [], ◌∷◌, ◌++◌, map, codes, get_or, Option, Some, None}
+use Rattle.std.specs.Prelude.{ℕ, zero, suc, ◌≡◌, Bool, true, false, cond, List, [], ◌∷◌, ◌++◌, map, codes, get_or, Option, Some, None}
 use Rattle.std.specs.Fmt.{decimal}
 use Rattle.po_arith.specs.declared.int_type.IntType.{IntType}
 use Rattle.po_types.specs.declared.ctype.CType.{CType}
@@ -42,3 +42,12 @@ mutual
     last : (t : CType) (text : List ℕ) → Spelled env t text → AllSpelled env (t ∷ []) text
     more : (t u : CType) (ts : List CType) (text rest : List ℕ) → Spelled env t text → AllSpelled env (u ∷ ts) rest →
         AllSpelled env (t ∷ u ∷ ts) (text ++ comma_and rest)
+
+-- behind the text before stands a text of which R holds
+abbrev pub Writes : (List ℕ → Type 0) → List ℕ → List ℕ → Type 0
+Writes R before after = (text : List ℕ) × R text × (after ≡ before ++ text)
+
+-- what stands before the item at this place of a list
+abbrev pub separator : ℕ → List ℕ
+separator zero = []
+separator (suc i) = codes ","

@@ -1,3 +1,7 @@
+ghost use Rattle.std.specs.Prelude.{◌≡◌};
+ghost use Rattle.po_types.specs.Environments.{no_declarations};
+ghost use Rattle.po_types.specs.Nesting.{IsWellFounded};
+
 use crate::ctype::CType;
 use crate::layout::Layout;
 use crate::table::Table;
@@ -35,7 +39,10 @@ pub struct Env {
 
 impl Env {
     /// The environment of a file before its first piece.
-    pub fn new(alloc: Global, target: Target) -> Env {
+    pub fn new(alloc: Global, target: Target) -> Env
+        ensures nothing { result ≡ no_declarations target }
+        ensures founded { IsWellFounded result }
+    {
         Env {
             target,
             globals: Table::new(alloc),

@@ -1,4 +1,4 @@
-ghost use Rattle.std.specs.Prelude.{◌≡◌, [], ◌∷◌, ◌++◌, None, IfOk, OnOk, OnErr};
+ghost use Rattle.std.specs.Prelude.{◌≡◌, ◌<◌, [], ◌∷◌, ◌++◌, ℕ, List, length, get_or, None, IfOk, OnOk, OnErr};
 ghost use Rattle.std.specs.Option.{option_copied};
 ghost use Rattle.po_types.specs.Tables.{found};
 
@@ -37,6 +37,24 @@ impl<V: Drop> Table<V> {
         ensures { option_copied result ≡ found self.now name.now }
     {
         self.entries.get(name)
+    }
+
+    /// How many names there are.
+    pub fn len(&self) -> usize
+        ensures { result ≡ length self.now }
+    {
+        self.entries.len()
+    }
+
+    /// What the name at a place stands for, in the order in which the names were added, in constant time.
+    pub fn value_at(&self, at: usize) -> &V
+        requires { at < length self.now }
+        ensures { (d : List ℕ × V) → result.now ≡ (get_or self.now at d).1 }
+    {
+        match self.entries.get_index(at) {
+            Some((_, value)) => value,
+            None => unreachable!(),
+        }
     }
 
     /// Adds a name that isn't there yet.

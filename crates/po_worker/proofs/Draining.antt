@@ -46,7 +46,7 @@ module _ {P N : Type 0} where
   count_posting F o Open = refl
 
 module _ {P N T : Type 0} (b : Book P N T) where
-  pub does_extends : (e : Event P N) (old new : LedgerView P N) → Does b e old new → Extends old.journal new.journal
+  pub does_extends : (e : Event P N) (old new : LedgerView P N T) → Does b e old new → Extends old.journal new.journal
   does_extends e old new d = (e ∷ [], d.appends)
 
   count_settling : (F : FileNo) (o : Obl P) → settle_count (settling b F o) ≡ 1
@@ -64,7 +64,7 @@ module _ {P N T : Type 0} (b : Book P N T) where
       omega arith
 
   -- a ticket that is handed out where nobody holds a file
-  pub handed_out : (w : ℕ) (old new : LedgerView P N) (t : TicketView P T) → NoneHeld old.state → HandsOut b w old new t → HoldsOnly new.state t
+  pub handed_out : (w : ℕ) (old new : LedgerView P N T) (t : TicketView P T) → NoneHeld old.state → HandsOut b w old new t → HoldsOnly new.state t
   handed_out w old new t none h = record {
     fits = h.fits;
     only = λ f held. elim (cases_eq f.0 t.file.0) [
@@ -73,7 +73,7 @@ module _ {P N T : Type 0} (b : Book P N T) where
     ];
   }
 
-  pub handed_some : (w : ℕ) (old new : LedgerView P N) (t : TicketView P T) → HandsOut b w old new t → 0 < length t.hand
+  pub handed_some : (w : ℕ) (old new : LedgerView P N T) (t : TicketView P T) → HandsOut b w old new t → 0 < length t.hand
   handed_some w old new t h =
       let can = h.did.steps.legal.1 in
       let took = h.did.steps.effect in
@@ -109,16 +109,16 @@ module _ {P N T : Type 0} (b : Book P N T) where
   only_kept s t u k h = record { fits = fits_kept s t u k h.fits; only = λ f held. h.only f held ∙ sym k.file }
 
   -- a hand that is settled with tables at hand
-  pub hand_kept : (t u w : TicketView P T) (old new : LedgerView P N) → KeepsTicket t u → SettlesHand b u w old new → SettlesHand b t w old new
+  pub hand_kept : (t u w : TicketView P T) (old new : LedgerView P N T) → KeepsTicket t u → SettlesHand b u w old new → SettlesHand b t w old new
   hand_kept t u w old new k s = record {
     settled = s.settled;
     appends = s.appends ∙ (ap (λ (z : FileNo). old.journal ++ flat_map (settling b z) (items_of u.hand)) k.file ∙ ap (λ (z : List (Obl P × Bool)). old.journal ++ flat_map (settling b t.file) (items_of z)) k.hand);
   }
 
-  pub bounded_in : (of_book : Book P N T) (l : LedgerView P N) → of_book ≡ b → ((es : List (Event P N)) (s : CoreState P N) → Replays of_book es s → settle_count es ≤ most_obligations of_book) → IsLedger b l → settle_count l.journal ≤ most_obligations b
+  pub bounded_in : (of_book : Book P N T) (l : LedgerView P N T) → of_book ≡ b → ((es : List (Event P N)) (s : CoreState P N) → Replays of_book es s → settle_count es ≤ most_obligations of_book) → IsLedger b l → settle_count l.journal ≤ most_obligations b
   bounded_in of_book l same law is = (subst (λ (z : Book P N T). (es : List (Event P N)) (s : CoreState P N) → Replays z es s → settle_count es ≤ most_obligations z) same law) l.journal l.state is.replays
 
-  pub ticket_advances : (t u : TicketView P T) (l0 l1 l2 : LedgerView P N) → SettlesHand b t u l0 l1 → 0 < length t.hand → Does b (Give u.worker u.file) l1 l2 → settle_count l2.journal ≤ most_obligations b → Advances b l0 l2
+  pub ticket_advances : (t u : TicketView P T) (l0 l1 l2 : LedgerView P N T) → SettlesHand b t u l0 l1 → 0 < length t.hand → Does b (Give u.worker u.file) l1 l2 → settle_count l2.journal ≤ most_obligations b → Advances b l0 l2
   ticket_advances t u l0 l1 l2 s some given most =
       let hand : settle_count l1.journal ≡ settle_count l0.journal + settle_count (flat_map (settling b t.file) (items_of t.hand)) = ap settle_count s.appends ∙ count_both l0.journal (flat_map (settling b t.file) (items_of t.hand)) in
       let many : settle_count (flat_map (settling b t.file) (items_of t.hand)) ≡ length (items_of t.hand) = count_hand t.file (items_of t.hand) in
@@ -126,11 +126,11 @@ module _ {P N T : Type 0} (b : Book P N T) where
       let give : settle_count l2.journal ≡ settle_count l1.journal + 0 = ap settle_count given.appends ∙ count_both l1.journal (Give u.worker u.file ∷ []) in
       record { settles = omega arith; bounded = most }
 
-  pub file_advances : (w : ℕ) (t : TicketView P T) (l0 l1 l2 : LedgerView P N) → HandsOut b w l0 l1 t → Advances b l1 l2 → Advances b l0 l2
+  pub file_advances : (w : ℕ) (t : TicketView P T) (l0 l1 l2 : LedgerView P N T) → HandsOut b w l0 l1 t → Advances b l1 l2 → Advances b l0 l2
   file_advances w t l0 l1 l2 h a =
       let count : settle_count l1.journal ≡ settle_count l0.journal + 0 = ap settle_count h.did.appends ∙ count_both l0.journal (Take w t.file ∷ []) in
       let more : settle_count l1.journal < settle_count l2.journal = a.settles in
       record { settles = omega arith; bounded = a.bounded }
 
-  pub asked_wait : (w : ℕ) (old new : LedgerView P N) → NoneHeld old.state → Does b (Ask w false) old new → ⊥
+  pub asked_wait : (w : ℕ) (old new : LedgerView P N T) → NoneHeld old.state → Does b (Ask w false) old new → ⊥
   asked_wait w old new none d = let held = d.steps.legal.0 in none held.0 held.1

@@ -23,7 +23,7 @@ use Rattle.po_worker.proofs.General.{got_in, map_get, map_push}
 
 module _ {P N T : Type 0} (b : Book P N T) where
   -- nothing is settled of a ticket that is handed out
-  pub handed_open : (w : ℕ) (old new : LedgerView P N) (t : TicketView P T) → HandsOut b w old new t → IsSettledUpTo t.hand 0
+  pub handed_open : (w : ℕ) (old new : LedgerView P N T) (t : TicketView P T) → HandsOut b w old new t → IsSettledUpTo t.hand 0
   handed_open w old new t h k o settled at = (λ l. absurd (omega (arith, l)), λ l. h.all_open o settled (contains t.hand (o, settled) (got_in t.hand k (o, settled) at)))
 
   -- the verdicts up to one more item
@@ -38,7 +38,7 @@ module _ {P N T : Type 0} (b : Book P N T) where
       )
 
   -- one who is told that all is done
-  pub asked_done : (w : ℕ) (old new : LedgerView P N) → Does b (Ask w true) old new → IsQuiet new.state
+  pub asked_done : (w : ℕ) (old new : LedgerView P N T) → Does b (Ask w true) old new → IsQuiet new.state
   asked_done w old new d =
       let keeps : Keeps old.state new.state = d.steps.effect in
       record {
@@ -46,7 +46,7 @@ module _ {P N T : Type 0} (b : Book P N T) where
         none_untaken = λ o h. d.steps.legal.none_untaken o ((keeps.marks o Untaken).0 h);
       }
 
-  pub told_done : (w : ℕ) (old new : LedgerView P N) → Does b (Ask w true) old new → IsLedger b new → IsToldDone b w
+  pub told_done : (w : ℕ) (old new : LedgerView P N T) → Does b (Ask w true) old new → IsLedger b new → IsToldDone b w
   told_done w old new d is = record {
     before = old.journal;
     end = new.state;
@@ -55,7 +55,7 @@ module _ {P N T : Type 0} (b : Book P N T) where
   }
 
   -- what the answer to a worker that asks for work tells it
-  pub told : {R J : Type 0} (w : ℕ) (old new : LedgerView P N) (next : Next R J P N T) → Answers b w old new next → IsLedger b new → Tells b w next
+  pub told : {R J : Type 0} (w : ℕ) (old new : LedgerView P N T) (next : Next R J P N T) → Answers b w old new next → IsLedger b new → Tells b w next
   told w old new (Ticket t) h is = handed_open w old new t h
   told w old new Wait h is = tt
   told w old new Done h is = told_done w old new h is

@@ -16,6 +16,6 @@ pub record HoldsOnly {P N T : Type 0} (s : CoreState P N) (t : TicketView P T) :
   pub only : (file : FileNo) → IsHeld s file → file ≡ t.file
 
 -- Some obligation was settled, and no more than there can be.
-pub record Advances {P N T : Type 0} (b : Book P N T) (old new : LedgerView P N) : Type 0 where
+pub record Advances {P N T : Type 0} (b : Book P N T) (old new : LedgerView P N T) : Type 0 where
   pub settles : settle_count old.journal < settle_count new.journal
   pub bounded : settle_count new.journal ≤ most_obligations b

@@ -1,18 +1,17 @@
 use crate::sample::{bases_of, between, one_block, state_of};
 use po_arith::Interval;
 use po_astate::{AState, AValue, below_state, round_state};
-use po_base::Memory;
+use po_base::{Memory, OrdList};
 use po_bases::{Base, Entry};
 use po_interval::{Members, Thresholds};
-use std::alloc::{AllocError, Global};
-use std::collections::BTreeSet;
+use std::alloc::Global;
 use std::test::Fail;
 
 /// The ends -100, -1, 0, 1, 10 and 100,000.
 fn thresholds(alloc: Global) -> Result<Thresholds, Memory> {
-    let mut coarse = BTreeSet::new(alloc);
+    let mut coarse = OrdList::new(alloc);
     for number in [-100, -1, 0, 1, 10, 100_000] {
-        coarse.insert(number).map_err(AllocError::from)?;
+        coarse.insert(number)?;
     }
     Ok(Thresholds { coarse })
 }

@@ -4,4 +4,8 @@
 #[cfg(test)]
 mod conversions;
 #[cfg(test)]
+mod formats;
+#[cfg(test)]
+mod spellings;
+#[cfg(test)]
 mod types;

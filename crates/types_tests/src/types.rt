@@ -10,7 +10,7 @@ fn array(alloc: Global, element: CType, count: Option<u64>) -> Result<CType, Mem
 }
 
 /// A pointer to a pointer, and so on, to int.
-fn stars(alloc: Global, count: u32) -> Result<CType, Memory> {
+pub(crate) fn stars(alloc: Global, count: u32) -> Result<CType, Memory> {
     let mut t = CType::Int(IntType::INT);
     for _star in 0..count {
         t = CType::Ptr(Shared::new(alloc, t)?);
@@ -19,7 +19,11 @@ fn stars(alloc: Global, count: u32) -> Result<CType, Memory> {
 }
 
 /// Arrays of arrays of a type, the innermost first.
-fn arrays(alloc: Global, element: CType, counts: &[Option<u64>]) -> Result<CType, Memory> {
+pub(crate) fn arrays(
+    alloc: Global,
+    element: CType,
+    counts: &[Option<u64>],
+) -> Result<CType, Memory> {
     let mut t = element;
     for count in counts {
         t = array(alloc, t, *count)?;

@@ -8,11 +8,11 @@ pub returns-in-Some : goal.returns-in-Some
 returns-in-Some c =
     let v = c.ranges.v in
     let x : FitsSigned w128 c.in-Some.x.now = search rules in
-    let range = simp to_z-of_z at c.range.ensures.in_range in
+    let range = simp to_z-of_z at c.range.ensures.between in
     simp to_z-of_z (first_found c.args.numbers.now c.args.v c.in-Some.x.now c.range.result c.next.new.self (range tt) c.in-Some.ensures.steps)
 
 pub returns-in-None : goal.returns-in-None
 returns-in-None c =
     let v = c.ranges.v in
-    let range = simp to_z-of_z at c.range.ensures.in_range in
+    let range = simp to_z-of_z at c.range.ensures.between in
     none_from c.args.numbers.now c.args.v c.range.result (range tt) c.in-None.ensures.steps.0

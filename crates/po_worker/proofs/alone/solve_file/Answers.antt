@@ -9,10 +9,10 @@ use Rattle.po_worker.proofs.Handed.{asked_done, handed_open}
 use Rattle.po_worker.proofs.alone.solve_file.Goals as goal
 
 pub returns-in_err-ticket-clause-err : goal.returns-in_err-ticket-clause-err
-returns-in_err-ticket-clause-err g c = on_err _ (subst (λ (z : LedgerView _ _). NoneHeld z.state) (sym c.in_err-ticket.ensures.err) c.requires)
+returns-in_err-ticket-clause-err g c = on_err _ (subst (λ (z : LedgerView _ _ _). NoneHeld z.state) (sym c.in_err-ticket.ensures.err) c.requires)
 
 pub returns-in_err-ticket-clause-journal : goal.returns-in_err-ticket-clause-journal
-returns-in_err-ticket-clause-journal g c = subst (λ (z : LedgerView _ _). Extends c.args.ledger.now.journal z.journal) (sym c.in_err-ticket.ensures.err) (extends_none _)
+returns-in_err-ticket-clause-journal g c = subst (λ (z : LedgerView _ _ _). Extends c.args.ledger.now.journal z.journal) (sym c.in_err-ticket.ensures.err) (extends_none _)
 
 pub solve_ticket-requires-clause-holds : goal.solve_ticket-requires-clause-holds
 solve_ticket-requires-clause-holds g c = handed_out g.J.Naming.book _ _ _ _ c.requires (rw c.in-Ticket.is at c.in_ok-ticket.ensures.ok)

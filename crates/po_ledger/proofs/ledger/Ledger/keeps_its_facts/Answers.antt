@@ -3,4 +3,4 @@ use Rattle.po_ledger.specs.View.{LedgerView, IsLedger}
 use Rattle.po_ledger.proofs.ledger.Ledger.keeps_its_facts.Goals as goal
 
 pub returns : goal.returns
-returns g c = subst (λ (z : LedgerView _ _). IsLedger g.J.Naming.book z) c.self.view_is c.self.invariant.ledger
+returns g c = subst (λ (z : LedgerView _ _ _). IsLedger g.J.Naming.book z) c.self.view_is c.self.invariant.ledger

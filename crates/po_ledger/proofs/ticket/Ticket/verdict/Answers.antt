@@ -1,3 +1,4 @@
+use Rattle.po_ledger.proofs.Added.{adds_seen}
 use Rattle.po_ledger.proofs.Items.{item_there, tables_of, ticket_tables}
 use Rattle.po_ledger.proofs.ticket.Ticket.verdict.Goals as goal
 
@@ -12,3 +13,6 @@ invariant_of-self g c = ticket_tables g.J.Naming.book _ _ _ _ c.requires.same_bo
 
 pub invariant_of-self-2 : goal.invariant_of-self-2
 invariant_of-self-2 g c = ticket_tables g.J.Naming.book _ _ _ _ c.requires.same_book c.self.invariant c.table_place.ensures.right
+
+pub returns-clause-tables : goal.returns-clause-tables
+returns-clause-tables g c = adds_seen _ c.args.self.now c.args.k c.item.result.now c.table_place.new.tables c.self.view_is c.item.ensures c.table_place.ensures.adds

@@ -1,5 +1,0 @@
-use Rattle.po_ir.proofs.OneLinked.{stands_by_file}
-use Rattle.po_ir.proofs.laws.functions_stand_by_file.Goals as goal
-
-pub returns : goal.returns
-returns c = stands_by_file

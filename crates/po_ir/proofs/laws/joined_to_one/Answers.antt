@@ -1,5 +1,0 @@
-use Rattle.po_ir.proofs.OneLinked.{one_project}
-use Rattle.po_ir.proofs.laws.joined_to_one.Goals as goal
-
-pub returns : goal.returns
-returns c = one_project

@@ -1,5 +1,0 @@
-use Rattle.po_ir.proofs.Refused.{one_refusal}
-use Rattle.po_ir.proofs.laws.refusal_is_one.Goals as goal
-
-pub returns : goal.returns
-returns c = one_refusal

@@ -1,5 +1,0 @@
-use Rattle.po_ir.proofs.Named.{other_named}
-use Rattle.po_ir.proofs.names.take_under.Goals as goal
-
-pub returns-in-Some-clause-others : goal.returns-in-Some-clause-others
-returns-in-Some-clause-others g c = other_named c.args.map.now c.remove.new.self _ _ c.in-Some.ensures.updates

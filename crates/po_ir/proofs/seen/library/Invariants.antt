@@ -1,8 +1,0 @@
-use Rattle.std.proofs.Common.{take}
-use Rattle.std.specs.Prelude.{flat_map}
-use Rattle.po_ir.specs.Joined.{libs_of}
-use Rattle.po_ir.specs.Noted.{AreNoted}
-use Rattle.po_ir.proofs.seen.library.Given as goal
-
-abbrev pub invariant-loop-unit : goal.invariant-loop-unit
-invariant-loop-unit l = AreNoted l.noted (flat_map libs_of (take l.unit-index l.units))

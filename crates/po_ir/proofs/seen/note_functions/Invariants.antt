@@ -1,7 +1,0 @@
-use Rattle.std.proofs.Common.{List, take, ◌++◌}
-use Rattle.po_ir.specs.declared.project.Function.{Function}
-use Rattle.po_ir.specs.Noted.{AreSeen}
-use Rattle.po_ir.proofs.seen.note_functions.Given as goal
-
-abbrev pub invariant-loop-function : goal.invariant-loop-function
-invariant-loop-function l = (before : List Function) → AreSeen l.fn.seen before → AreSeen l.seen (before ++ take l.function-index l.functions)

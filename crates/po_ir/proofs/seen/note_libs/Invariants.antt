@@ -1,7 +1,0 @@
-use Rattle.std.proofs.Common.{List, take, ◌++◌}
-use Rattle.po_ir.specs.declared.unit.LibUse.{LibUse}
-use Rattle.po_ir.specs.Noted.{AreNoted}
-use Rattle.po_ir.proofs.seen.note_libs.Given as goal
-
-abbrev pub invariant-loop-used : goal.invariant-loop-used
-invariant-loop-used l = (before : List LibUse) → AreNoted l.fn.noted before → AreNoted l.noted (before ++ take l.used-index l.libs)

@@ -1,0 +1,6 @@
+pub mod Joined
+pub mod Noted
+pub mod Objects
+pub mod Scoped
+pub mod Parted
+pub mod Outcome

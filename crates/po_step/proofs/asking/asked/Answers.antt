@@ -1,0 +1,10 @@
+use Rattle.std.specs.Prelude.{◌≡◌, ◌++◌, List}
+use Rattle.std.proofs.Common.{ap, ◌∙◌}
+use Rattle.po_meaning.specs.Checks.{Asked, primaries}
+use Rattle.po_step.proofs.asking.asked.Goals as goal
+
+pub returns : goal.returns
+returns g c =
+    c.in_ok-add_all.ensures
+    ∙ (ap (λ (xs : List Asked). xs ++ c.as_slice.result.now) c.in_ok-list.ensures
+    ∙ ap (λ (ys : List Asked). primaries (g.L.Library.meaning c.args.library.now) c.args.p.now c.args.f c.args.n ++ ys) (c.as_slice.ensures ∙ c.in_ok-more.ensures))
