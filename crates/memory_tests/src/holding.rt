@@ -9,19 +9,32 @@ use std::test::Fail;
 /// start of a string of two characters in eight bytes, of which the last four have no value; to the start of a dead block;
 /// to the fourth byte of a heap block of four bytes without values, in which nothing may be written.
 const UNSET: u32 = 0;
+
 const FIVE: u32 = 1;
+
 const LEAST: u32 = 2;
+
 const NULL: u32 = 3;
+
 const WILD: u32 = 4;
+
 const STRING: u32 = 5;
+
 const DEAD: u32 = 6;
+
 const HEAP: u32 = 7;
 
 fn at(block: u64, offset: i128) -> Option<Value> {
     Some(Value::Pointer { block, offset })
 }
 
-fn block(alloc: Global, bytes: [Byte; 8], size: usize, alive: bool, heap: bool) -> Result<Block, Fail> {
+fn block(
+    alloc: Global,
+    bytes: [Byte; 8],
+    size: usize,
+    alive: bool,
+    heap: bool,
+) -> Result<Block, Fail> {
     let mut list = List::new(alloc);
     for byte in bytes {
         if list.len() < size {
@@ -142,7 +155,12 @@ fn of_one_pointer(rt: HostRuntime) -> Result<(), Fail> {
     let rows = [
         (Pred::NotNull { p: reg(STRING) }, true),
         (Pred::NotNull { p: reg(NULL) }, false),
-        (Pred::NotNull { p: moved(NULL, 3, 3) }, false),
+        (
+            Pred::NotNull {
+                p: moved(NULL, 3, 3),
+            },
+            false,
+        ),
         (Pred::NotNull { p: reg(WILD) }, true),
         (Pred::NotNull { p: reg(UNSET) }, false),
         (Pred::NotNull { p: reg(FIVE) }, false),
@@ -155,24 +173,85 @@ fn of_one_pointer(rt: HostRuntime) -> Result<(), Fail> {
         (Pred::Live { p: argument(-9) }, true),
         (Pred::Writable { p: reg(STRING) }, true),
         (Pred::Writable { p: reg(HEAP) }, false),
-        (Pred::Aligned { p: reg(STRING), a: 8 }, true),
-        (Pred::Aligned { p: reg(STRING), a: 16 }, false),
-        (Pred::Aligned { p: moved(STRING, -8, -8), a: 8 }, true),
-        (Pred::Aligned { p: moved(STRING, 2, 2), a: 4 }, false),
-        (Pred::Aligned { p: moved(STRING, 0, 8), a: 8 }, false),
-        (Pred::Aligned { p: moved(STRING, 0, 8), a: 1 }, true),
-        (Pred::HeapStart { p: moved(HEAP, -4, -4) }, true),
+        (
+            Pred::Aligned {
+                p: reg(STRING),
+                a: 8,
+            },
+            true,
+        ),
+        (
+            Pred::Aligned {
+                p: reg(STRING),
+                a: 16,
+            },
+            false,
+        ),
+        (
+            Pred::Aligned {
+                p: moved(STRING, -8, -8),
+                a: 8,
+            },
+            true,
+        ),
+        (
+            Pred::Aligned {
+                p: moved(STRING, 2, 2),
+                a: 4,
+            },
+            false,
+        ),
+        (
+            Pred::Aligned {
+                p: moved(STRING, 0, 8),
+                a: 8,
+            },
+            false,
+        ),
+        (
+            Pred::Aligned {
+                p: moved(STRING, 0, 8),
+                a: 1,
+            },
+            true,
+        ),
+        (
+            Pred::HeapStart {
+                p: moved(HEAP, -4, -4),
+            },
+            true,
+        ),
         (Pred::HeapStart { p: reg(HEAP) }, false),
-        (Pred::HeapStart { p: moved(HEAP, -4, -3) }, false),
+        (
+            Pred::HeapStart {
+                p: moved(HEAP, -4, -3),
+            },
+            false,
+        ),
         (Pred::HeapStart { p: reg(DEAD) }, false),
         (Pred::HeapStart { p: reg(STRING) }, false),
         (Pred::HeapStart { p: reg(NULL) }, true),
         (Pred::Terminated { p: reg(STRING) }, true),
-        (Pred::Terminated { p: moved(STRING, 0, 2) }, true),
-        (Pred::Terminated { p: moved(STRING, 0, 3) }, false),
+        (
+            Pred::Terminated {
+                p: moved(STRING, 0, 2),
+            },
+            true,
+        ),
+        (
+            Pred::Terminated {
+                p: moved(STRING, 0, 3),
+            },
+            false,
+        ),
         (Pred::Terminated { p: argument(0) }, false),
         (Pred::Terminated { p: argument(1) }, true),
-        (Pred::Terminated { p: moved(STRING, 8, 8) }, false),
+        (
+            Pred::Terminated {
+                p: moved(STRING, 8, 8),
+            },
+            false,
+        ),
         (Pred::RegSet { v: RegNo(FIVE) }, true),
         (Pred::RegSet { v: RegNo(UNSET) }, false),
         (Pred::RegSet { v: RegNo(99) }, false),
@@ -247,8 +326,22 @@ fn of_two_pointers(rt: HostRuntime) -> Result<(), Fail> {
         (moved(STRING, 0, 6), reg(STRING), one(0), true, true, false),
         (reg(STRING), moved(STRING, 0, 2), one(0), true, true, true),
         (reg(STRING), moved(STRING, 0, 3), one(0), true, true, false),
-        (moved(STRING, 0, 1), moved(STRING, 4, 6), one(3), true, true, false),
-        (moved(STRING, 0, 2), moved(STRING, 4, 6), one(3), true, false, false),
+        (
+            moved(STRING, 0, 1),
+            moved(STRING, 4, 6),
+            one(3),
+            true,
+            true,
+            false,
+        ),
+        (
+            moved(STRING, 0, 2),
+            moved(STRING, 4, 6),
+            one(3),
+            true,
+            false,
+            false,
+        ),
         (reg(HEAP), reg(STRING), one(9), false, true, false),
         (moved(HEAP, -3, -3), reg(STRING), one(9), false, true, true),
         (reg(NULL), reg(STRING), one(9), true, true, true),
@@ -274,30 +367,79 @@ fn of_numbers(rt: HostRuntime) -> Result<(), Fail> {
     let max = 2_147_483_647;
     let rows = [
         (Pred::Nonzero { x: reg(FIVE) }, true),
-        (Pred::Nonzero { x: moved(FIVE, -6, -4) }, false),
-        (Pred::Nonzero { x: moved(FIVE, -9, -6) }, true),
+        (
+            Pred::Nonzero {
+                x: moved(FIVE, -6, -4),
+            },
+            false,
+        ),
+        (
+            Pred::Nonzero {
+                x: moved(FIVE, -9, -6),
+            },
+            true,
+        ),
         (Pred::Nonzero { x: one(0) }, false),
         (Pred::Nonzero { x: reg(UNSET) }, false),
         (Pred::Nonzero { x: reg(NULL) }, false),
-        (Pred::IntIn { x: reg(FIVE), lo: 5, hi: 5 }, true),
-        (Pred::IntIn { x: moved(FIVE, 0, 1), lo: 5, hi: 5 }, false),
-        (Pred::IntIn { x: moved(FIVE, -1, 0), lo: 5, hi: 5 }, false),
+        (
+            Pred::IntIn {
+                x: reg(FIVE),
+                lo: 5,
+                hi: 5,
+            },
+            true,
+        ),
+        (
+            Pred::IntIn {
+                x: moved(FIVE, 0, 1),
+                lo: 5,
+                hi: 5,
+            },
+            false,
+        ),
+        (
+            Pred::IntIn {
+                x: moved(FIVE, -1, 0),
+                lo: 5,
+                hi: 5,
+            },
+            false,
+        ),
         (over(Over::Add, 32, numbers(0, max), one(0)), true),
         (over(Over::Add, 32, numbers(0, max), numbers(0, 1)), false),
         (over(Over::Add, 32, reg(LEAST), one(-1)), false),
         (over(Over::Sub, 32, reg(LEAST), numbers(0, 1)), false),
         (over(Over::Sub, 32, one(-1), reg(LEAST)), true),
         (over(Over::Sub, 32, one(0), reg(LEAST)), false),
-        (over(Over::Mul, 32, numbers(-65536, 65535), one(32768)), true),
-        (over(Over::Mul, 32, numbers(-65536, 65536), one(32768)), false),
+        (
+            over(Over::Mul, 32, numbers(-65536, 65535), one(32768)),
+            true,
+        ),
+        (
+            over(Over::Mul, 32, numbers(-65536, 65536), one(32768)),
+            false,
+        ),
         (over(Over::Mul, 32, numbers(-65537, 0), one(32768)), false),
-        (over(Over::Mul, 32, numbers(-46341, 0), numbers(-46341, 0)), false),
-        (over(Over::Mul, 64, one(4_294_967_296), one(2_147_483_648)), false),
-        (over(Over::Mul, 64, one(-4_294_967_296), one(2_147_483_648)), true),
+        (
+            over(Over::Mul, 32, numbers(-46341, 0), numbers(-46341, 0)),
+            false,
+        ),
+        (
+            over(Over::Mul, 64, one(4_294_967_296), one(2_147_483_648)),
+            false,
+        ),
+        (
+            over(Over::Mul, 64, one(-4_294_967_296), one(2_147_483_648)),
+            true,
+        ),
         (over(Over::Div, 32, reg(LEAST), one(-1)), false),
         (over(Over::Div, 32, reg(LEAST), one(0)), true),
         (over(Over::Div, 32, moved(LEAST, 1, 9), one(-1)), true),
-        (over(Over::Rem, 32, numbers(-3_000_000_000, 0), numbers(-2, 5)), false),
+        (
+            over(Over::Rem, 32, numbers(-3_000_000_000, 0), numbers(-2, 5)),
+            false,
+        ),
         (over(Over::Rem, 64, reg(LEAST), one(-1)), true),
         (over(Over::Shl, 32, one(1), numbers(0, 30)), true),
         (over(Over::Shl, 32, one(1), numbers(0, 31)), false),
@@ -306,8 +448,24 @@ fn of_numbers(rt: HostRuntime) -> Result<(), Fail> {
         (over(Over::Shl, 32, one(1), one(-1)), false),
         (over(Over::Shl, 64, one(3), one(61)), true),
         (over(Over::Add, 32, reg(FIVE), reg(UNSET)), false),
-        (Pred::NoOver { op: Over::Neg, bits: 32, a: reg(LEAST), b: None }, false),
-        (Pred::NoOver { op: Over::Neg, bits: 32, a: moved(LEAST, 1, 9), b: None }, true),
+        (
+            Pred::NoOver {
+                op: Over::Neg,
+                bits: 32,
+                a: reg(LEAST),
+                b: None,
+            },
+            false,
+        ),
+        (
+            Pred::NoOver {
+                op: Over::Neg,
+                bits: 32,
+                a: moved(LEAST, 1, 9),
+                b: None,
+            },
+            true,
+        ),
     ];
     for (p, wanted) in rows {
         assert_eq!(rt; holds(&p, &f, &m), wanted);
