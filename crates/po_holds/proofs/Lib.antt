@@ -1,0 +1,9 @@
+pub mod Telling
+pub mod Products
+pub mod Sums
+pub mod Chosen
+pub mod Asked
+pub mod Aligned
+pub mod Ended
+pub mod Both
+pub mod Widths

@@ -1,0 +1,5 @@
+pub mod Choosing
+pub mod Exact
+pub mod Asking
+pub mod Pairs
+pub mod Over
