@@ -90,7 +90,7 @@ lines_so l.Comment bytes end q within ended = refl
 lines_so l.Remark bytes end q within ended = refl
 lines_so l.Sign bytes end q within ended = refl
 
-skip_nothing : (xs : List ℕ) → skip r.Nothing 0 xs ≡ xs
+pub skip_nothing : (xs : List ℕ) → skip r.Nothing 0 xs ≡ xs
 skip_nothing [] = refl
 skip_nothing (c ∷ cs) = refl
 

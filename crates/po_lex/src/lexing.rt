@@ -8,7 +8,7 @@ ghost use Rattle.po_lex.specs.declared.lexing.LexFail.TheVariants.{Memory as NoM
 
 use crate::effect::Effect;
 use crate::lead::Lead;
-use crate::part::{Standing, part_of};
+use crate::part::{Standing, part_of, rest_of};
 use crate::place::Place;
 use po_base::{List, Memory, Text, Token, TokenKind, Tokens};
 use std::alloc::Global;
@@ -196,6 +196,28 @@ fn no_part(place: &Place, bytes: &[u8]) -> LexFail
     }
 }
 
+/// The tokens of a file of at most 2^24 bytes, which the tokens share. Time linear in the bytes.
+fn tokens_of_file(alloc: Global, name: &Text, file: &Text) -> Result<Tokens, LexFail>
+    requires { length file.now ≤ 2 ^ 24 }
+    ensures tokens { IfOk result (λ tokens. AreTokens name.now file.now tokens) }
+    ensures fail { IfErr result (λ fail. HasCause file.now fail) }
+{
+    let count = file.bytes().len();
+    let mut lexer = Lexer::new(alloc, name)?;
+    let mut at = 0;
+    while at < count {
+        match part_of(alloc, file, at, lexer.place.fresh)? {
+            Some(part) => {
+                let end = part.end;
+                lexer.read(file, at, part)?;
+                at += end;
+            }
+            None => return Err(no_part(&lexer.place, rest_of(file, at))),
+        }
+    }
+    lexer.finish()
+}
+
 /// The tokens of a file of at most 2^24 bytes that a C preprocessor wrote, in the one division of its bytes into
 /// longest parts. The first name is the file's own, and each line marker that gives a name adds one. Time is linear in
 /// the bytes. Memory is one copy of the bytes, which the tokens share, and for each token its place in the list; each name is
@@ -213,18 +235,5 @@ pub fn tokens(alloc: Global, name: &Text, bytes: &[u8]) -> Result<Tokens, LexFai
     ensures fail { IfErr result (λ fail. HasCause bytes.now fail) }
 {
     let file = Text::new(alloc, bytes)?;
-    let mut lexer = Lexer::new(alloc, name)?;
-    let mut at = 0;
-    while at < bytes.len() {
-        let left = &bytes[at..];
-        match part_of(alloc, left, lexer.place.fresh)? {
-            Some(part) => {
-                let end = part.end;
-                lexer.read(&file, at, part)?;
-                at += end;
-            }
-            None => return Err(no_part(&lexer.place, left)),
-        }
-    }
-    lexer.finish()
+    tokens_of_file(alloc, name, &file)
 }
