@@ -25,7 +25,11 @@ pub enum Extension {
 fn one(text: &[u8], word: &[u8], extension: Extension) -> Extension
     ensures { result ≡ cond (is_among (word.now ∷ []) text.now) extension Extension.Other }
 {
-    if word == text { extension } else { Extension::Other }
+    if word == text {
+        extension
+    } else {
+        Extension::Other
+    }
 }
 
 /// What a text is that may be one of these two words.
@@ -41,7 +45,11 @@ fn one_of_two(
     if first == text {
         return one;
     }
-    if second == text { other } else { Extension::Other }
+    if second == text {
+        other
+    } else {
+        Extension::Other
+    }
 }
 
 /// The word of the compiler's own that a text is. Its length tells which words it may be.

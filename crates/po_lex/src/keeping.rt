@@ -167,10 +167,8 @@ impl Standard {
         match extension {
             Extension::Inline => with_text(token, &self.inline),
             Extension::Const => with_text(token, &self.constant),
-            Extension::Other
-            | Extension::Dropped
-            | Extension::Attribute
-            | Extension::Assembler => same(token),
+            Extension::Other | Extension::Dropped | Extension::Attribute | Extension::Assembler =>
+                same(token),
         }
     }
 }

@@ -1,11 +1,10 @@
-ghost use Rattle.std.specs.Prelude.{ℕ, ◌≡◌, ◌+◌, ◌-◌, ◌<◌, ◌≤◌, ◌==◌, ◌||◌, ◌∷◌, [], ◌++◌, ◌^◌, length, take, drop, slice_index, IfOk, IfSome, IfNone, IsTrue, false, List as Bytes, option_to_list};
-ghost use Rattle.po_lex.specs.Bytes.{newlines, is_space};
+ghost use Rattle.std.specs.Prelude.{ℕ, ◌≡◌, ◌+◌, ◌-◌, ◌<◌, ◌≤◌, ◌++◌, ◌^◌, length, take, drop, slice_index, IfOk, IfSome, IfNone, IsTrue, false, List as Bytes, option_to_list};
+ghost use Rattle.po_lex.specs.Bytes.{newlines};
 ghost use Rattle.po_lex.specs.Leads.{lead_of, opening, row_of, closing, kind_of, lines};
 ghost use Rattle.po_lex.specs.Rows.{skip};
 ghost use Rattle.po_lex.specs.Division.{IsSaid, Stands, NoneStands};
 ghost use Rattle.po_lex.specs.declared.effect.Effect.{Effect as Said};
 
-use crate::bytes::is_space;
 use crate::directive::says;
 use crate::effect::Effect;
 use crate::lead::{Lead, beginning};
@@ -277,36 +276,15 @@ fn said(
 }
 
 impl Lead {
-    /// How many lines end in a part with these bytes. Words, numbers, literals and directives aren't read again for it.
+    /// How many lines end in a part with these bytes. Tokens and directives aren't read again for it.
     fn lines(self, text: &[u8]) -> u32
         requires { length text.now < 2 ^ 32 }
         ensures { result ≡ lines self text.now }
     {
         match self {
-            Lead::Word | Lead::Number | Lead::Char | Lead::Str | Lead::Directive => 0,
-            Lead::Blank | Lead::Joined | Lead::Comment | Lead::Remark | Lead::Sign => newlines(
-                text,
-            ),
+            Lead::Word | Lead::Number | Lead::Char | Lead::Str | Lead::Directive | Lead::Sign => 0,
+            Lead::Blank | Lead::Joined | Lead::Comment | Lead::Remark => newlines(text),
         }
-    }
-}
-
-/// Whether a byte is a blank by itself.
-fn is_blank(byte: u8) -> bool
-    ensures { result ≡ (byte == 10) || is_space byte }
-{
-    byte == b'\n' || is_space(byte)
-}
-
-/// The part that this blank is.
-fn blank(byte: u8) -> Standing
-    ensures { result ≡ record { lead = Lead.Blank; end = 1; lines = newlines (byte ∷ []); effect = Effect.Silent } }
-{
-    Standing {
-        lead: Lead::Blank,
-        end: 1,
-        lines: newlines(&[byte]),
-        effect: Effect::Silent,
     }
 }
 
@@ -325,10 +303,6 @@ pub(crate) fn part_of(
     ensures none { IfOk result (λ found. IfNone found (NoneStands fresh (drop at file.now))) }
 {
     let bytes = rest_of(file, at);
-    let first = bytes[0];
-    if is_blank(first) {
-        return Ok(Some(blank(first)));
-    }
     let lead = lead_of(bytes);
     let end = match part_end(bytes, lead) {
         Some(end) => end,

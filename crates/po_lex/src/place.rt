@@ -1,4 +1,4 @@
-ghost use Rattle.std.specs.Prelude.{◌≡◌, ◌+◌, ◌<◌, ◌≤◌, ◌^◌, length};
+ghost use Rattle.std.specs.Prelude.{◌≡◌, ◌+◌, ◌<◌, ◌≤◌, ◌^◌, ◌∷◌, [], length};
 ghost use Rattle.po_lex.specs.Bytes.{newlines};
 ghost use Rattle.po_lex.specs.Division.{freshly, moved, next_line};
 
@@ -38,6 +38,28 @@ fn freshly(fresh: bool, text: &[u8]) -> bool
 }
 
 impl Place {
+    /// The place behind a blank of this byte. Constant time.
+    pub(crate) fn past_blank(&self, byte: u8) -> Place
+        requires own { self.now.own ≤ 2 ^ 25 }
+        requires next { self.now.next ≤ 2 ^ 31 + 2 ^ 25 }
+        ensures { result ≡ moved self.now (byte ∷ []) Effect.Silent }
+    {
+        if byte == b'\n' {
+            return Place {
+                fresh: true,
+                next: self.next + 1,
+                own: self.own + 1,
+                named: self.named,
+            };
+        }
+        Place {
+            fresh: is_gap(byte) && self.fresh,
+            next: self.next,
+            own: self.own,
+            named: self.named,
+        }
+    }
+
     /// The place behind a part with these bytes, in which so many lines end, and which says this. Constant time, but for the
     /// spaces and tabs at its end.
     pub(crate) fn moved(&self, text: &[u8], lines: u32, effect: &Effect) -> Place

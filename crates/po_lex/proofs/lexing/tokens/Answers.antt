@@ -1,5 +1,3 @@
-use Rattle.std.proofs.Common.{subst, sym}
-use Rattle.std.specs.Prelude.{IfOk}
 use Rattle.std.proofs.lemmas.Result.{IfOk-weaker}
 use Rattle.po_lex.specs.Division.{AreTokens, ArePlaced}
 use Rattle.po_lex.proofs.Placed.{placed}

@@ -1,10 +1,41 @@
-use Rattle.std.proofs.Common.{◌≡◌, ℕ, List, [], ◌∷◌, ◌++◌, ◌≤◌, ◌+◌, ◌-◌, ◌<◌, ◌^◌, length, take, drop, arith, sym, ap, ◌∙◌, refl, subst}
+use Rattle.std.proofs.Common.{◌≡◌, ℕ, List, [], ◌∷◌, ◌≤◌, ◌+◌, ◌-◌, ◌<◌, ◌^◌, length, take, drop, get_or, true, arith, sym, ap, ◌∙◌, refl, subst}
 use Rattle.std.proofs.lemmas.List.{drop_all, drop-drop, length-drop, length-take}
-use Rattle.po_lex.specs.Bytes.{newlines}
+use Rattle.po_lex.specs.Bytes.{newlines, is_blank}
 use Rattle.po_lex.specs.Division.{Part, Stands, NoneStands, Divides, start, next_line, named_by}
 use Rattle.po_lex.specs.Lexing.{IsRead}
+use Rattle.po_lex.specs.declared.lead.Lead.TheVariants as l
+use Rattle.po_lex.specs.declared.effect.Effect.TheVariants as e
+use Rattle.po_lex.proofs.Lines.{blank_stands}
 use Rattle.po_lex.proofs.Fronts.{step, next_small, few_named, few_lines, fails_there, all_read, too_many}
 use Rattle.po_lex.proofs.lexing.tokens_of_file.Goals as goal
+
+pub loop-at-preserved-then-is_blank : goal.loop-at-preserved-then-is_blank
+loop-at-preserved-then-is_blank c =
+    let file : List ℕ = c.args.file.now in
+    let at : ℕ = c.loop-at.at in
+    let byte : ℕ = c.byte_at-byte.result in
+    let x : Part = record { lead = l.Blank; text = byte ∷ []; effect = e.Silent } in
+    let within : at < length file = omega (arith, ap length c.bytes-count.ensures) in
+    let blank : is_blank (get_or file at 0) ≡ true = ap is_blank (sym c.byte_at-byte.ensures) ∙ sym c.is_blank.ensures ∙ c.if-is_blank.true in
+    let stands : Stands c.loop-at.lexer.place.fresh (drop at file) x (drop (at + 1) file) =
+    subst (λ v. Stands c.loop-at.lexer.place.fresh (drop at file) (record { lead = l.Blank; text = v ∷ []; effect = e.Silent }) (drop (at + 1) file)) (sym c.byte_at-byte.ensures)
+    (blank_stands c.loop-at.lexer.place.fresh file at within blank) in
+    let lines : newlines (byte ∷ []) ≤ length (byte ∷ []) = few_lines (byte ∷ []) in
+    let place = c.read_blank.ensures.place in
+    let so = c.loop-at.invariant.read in
+    record {
+      within = omega (arith, within);
+      own = rw place (omega (arith, lines));
+      named = rw place (omega arith);
+      next = rw place (omega (arith, lines));
+      read = step c.args.name.now file (drop at file) (drop (at + 1) file) so.0 c.loop-at.lexer c.read_blank.new.self x so.1 so.2 stands c.read_blank.ensures.read;
+    }
+
+pub read-requires-clause-next : goal.read-requires-clause-next
+read-requires-clause-next c =
+    let stands = rw c.in-Some.is at c.in_ok-part.ensures.found in
+    let next = next_small c.in-Some.part.lead c.loop-at.lexer.place.fresh _ c.in-Some.part.effect c.loop-at.lexer.place.next (c.loop-at.at + 1) stands.said (omega arith) in
+    omega (arith, next, ap length c.bytes-count.ensures)
 
 pub loop-at-preserved : goal.loop-at-preserved
 loop-at-preserved c =

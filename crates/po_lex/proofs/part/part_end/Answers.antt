@@ -1,4 +1,3 @@
-use Rattle.std.proofs.Common.{sym}
 use Rattle.po_lex.proofs.part.part_end.Goals as goal
 
 pub returns-in-Sign-clause-none : goal.returns-in-Sign-clause-none

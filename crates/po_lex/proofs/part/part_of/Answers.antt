@@ -1,10 +1,7 @@
-use Rattle.std.proofs.Common.{◌≡◌, ◌∙◌, ◌<◌, ◌-◌, sym, ap, subst, arith, length, drop, take, List, ℕ}
-use Rattle.std.proofs.lemmas.List.{length-drop}
+use Rattle.std.proofs.Common.{◌≡◌, ◌∙◌, sym, ap, subst, drop, take, List, ℕ}
 use Rattle.po_lex.specs.Bytes.{newlines}
-use Rattle.po_lex.specs.Division.{NoneStands, Stands}
-use Rattle.po_lex.specs.declared.lead.Lead.TheVariants as l
-use Rattle.po_lex.specs.declared.effect.Effect.TheVariants as e
-use Rattle.po_lex.proofs.Lines.{lines_so, blank_stands, blank_lines}
+use Rattle.po_lex.specs.Division.{NoneStands}
+use Rattle.po_lex.proofs.Lines.{lines_so}
 use Rattle.po_lex.proofs.Parts.{none_said, none_ends}
 use Rattle.po_lex.proofs.part.part_of.Goals as goal
 
@@ -24,21 +21,3 @@ pub returns-in-Some-2-clause-lines : goal.returns-in-Some-2-clause-lines
 returns-in-Some-2-clause-lines c =
     c.lines.ensures ∙ lines_so c.lead_of-lead.result c.rest_of-bytes.result.now c.in-Some.end c.lead_of-lead.ensures c.in-Some.ensures.begun.1 c.in-Some.ensures.ended ∙
     ap (λ v. newlines (take c.in-Some.end v)) c.rest_of-bytes.ensures
-
-pub returns-then-is_blank-clause-found : goal.returns-then-is_blank-clause-found
-returns-then-is_blank-clause-found c =
-    let bytes : List ℕ = c.rest_of-bytes.result.now in
-    let long : length bytes ≡ length (drop c.args.at c.args.file.now) = ap length c.rest_of-bytes.ensures in
-    let left : length (drop c.args.at c.args.file.now) ≡ length c.args.file.now - c.args.at = length-drop c.args.at c.args.file.now in
-    let some : 0 < length bytes = omega (arith, c.requires.within, long, left) in
-    rw c.blank.ensures
-    (subst (λ v. Stands c.args.fresh v (record { lead = l.Blank; text = take 1 v; effect = e.Silent }) (drop 1 v)) c.rest_of-bytes.ensures
-    (blank_stands c.args.fresh bytes some (sym c.is_blank.ensures ∙ c.if-is_blank.true)))
-
-pub returns-then-is_blank-clause-lines : goal.returns-then-is_blank-clause-lines
-returns-then-is_blank-clause-lines c =
-    let bytes : List ℕ = c.rest_of-bytes.result.now in
-    let long : length bytes ≡ length (drop c.args.at c.args.file.now) = ap length c.rest_of-bytes.ensures in
-    let left : length (drop c.args.at c.args.file.now) ≡ length c.args.file.now - c.args.at = length-drop c.args.at c.args.file.now in
-    let some : 0 < length bytes = omega (arith, c.requires.within, long, left) in
-    rw c.blank.ensures (blank_lines bytes some ∙ ap (λ v. newlines (take 1 v)) c.rest_of-bytes.ensures)
