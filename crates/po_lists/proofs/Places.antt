@@ -1,8 +1,7 @@
 -- What stands at a place of a list, and of a list made of others.
-use Rattle.std.proofs.Common.{◌≡◌, ◌≢◌, ◌⊎◌, ℕ, zero, suc, ◌+◌, ◌<◌, ◌≤◌, List, [], ◌∷◌, ◌++◌, length, map, take, drop, refl, sym, ap, ◌∙◌, subst, inl, inr, arith}
-use Rattle.std.specs.Prelude.{Some, None, All, slice_get, slice_set}
+use Rattle.std.proofs.Common.{◌≡◌, ◌≢◌, ◌⊎◌, ℕ, zero, suc, ◌+◌, ◌<◌, List, [], ◌∷◌, ◌++◌, length, map, take, drop, refl, ap, ◌∙◌, subst, inl, inr, arith}
+use Rattle.std.specs.Prelude.{Some, All, slice_get, slice_set}
 use Rattle.std.specs.List.{AllZip}
-use Rattle.std.proofs.lemmas.Bool.{cases_eq}
 use Rattle.std.proofs.lemmas.Option.{get_or_from_slice_get, slice_get_within, same_Some}
 
 -- each place below the length has an item
@@ -63,9 +62,10 @@ first_at [] ys i less = absurd (omega arith)
 first_at (x ∷ xs) ys zero less = refl
 first_at (x ∷ xs) ys (suc i) less = first_at xs ys i (omega arith)
 
-pub second_at : {X : Type 0} (xs ys : List X) (i : ℕ) → slice_get (xs ++ ys) (length xs + i) ≡ slice_get ys i
-second_at [] ys i = let same : 0 + i ≡ i = omega arith in ap (slice_get ys) same
-second_at (x ∷ xs) ys i = let next : suc (length xs) + i ≡ suc (length xs + i) = omega arith in ap (slice_get (x ∷ xs ++ ys)) next ∙ second_at xs ys i
+pub second_at : {X : Type 0} (xs ys : List X) (n i : ℕ) → length xs ≡ n → slice_get (xs ++ ys) (n + i) ≡ slice_get ys i
+second_at [] ys n i size = let same : n + i ≡ i = omega arith in ap (slice_get ys) same
+second_at (x ∷ xs) ys zero i size = absurd (omega arith)
+second_at (x ∷ xs) ys (suc n) i size = let next : suc n + i ≡ suc (n + i) = omega arith in ap (slice_get (x ∷ xs ++ ys)) next ∙ second_at xs ys n i (omega arith)
 
 -- what stood before still stands
 pub kept_at : {X : Type 0} (xs ys : List X) (i : ℕ) (x : X) → slice_get xs i ≡ Some x → slice_get (xs ++ ys) i ≡ Some x
@@ -86,16 +86,16 @@ pushed_cases (z ∷ zs) y (suc k) x h = elim (pushed_cases zs y k x h) [ inl a �
 
 -- ---- of a front and a rest
 
-pub taken_at : {X : Type 0} (xs : List X) (n i : ℕ) → i < n → slice_get (take n xs) i ≡ slice_get xs i
-taken_at xs zero i less = absurd (omega arith)
-taken_at [] (suc n) i less = refl
-taken_at (x ∷ xs) (suc n) zero less = refl
-taken_at (x ∷ xs) (suc n) (suc i) less = taken_at xs n i (omega arith)
+pub taken_at : {X : Type 0} (n : ℕ) (xs : List X) (i : ℕ) → i < n → slice_get (take n xs) i ≡ slice_get xs i
+taken_at zero xs i less = absurd (omega arith)
+taken_at (suc n) [] i less = refl
+taken_at (suc n) (x ∷ xs) zero less = refl
+taken_at (suc n) (x ∷ xs) (suc i) less = taken_at n xs i (omega arith)
 
-pub dropped_at : {X : Type 0} (xs : List X) (n i : ℕ) → slice_get (drop n xs) i ≡ slice_get xs (n + i)
-dropped_at xs zero i = let same : i ≡ 0 + i = omega arith in ap (slice_get xs) same
-dropped_at [] (suc n) i = refl
-dropped_at (x ∷ xs) (suc n) i = let next : suc (n + i) ≡ suc n + i = omega arith in dropped_at xs n i ∙ ap (slice_get (x ∷ xs)) next
+pub dropped_at : {X : Type 0} (n : ℕ) (xs : List X) (i : ℕ) → slice_get (drop n xs) i ≡ slice_get xs (n + i)
+dropped_at zero xs i = let same : i ≡ 0 + i = omega arith in ap (slice_get xs) same
+dropped_at (suc n) [] i = refl
+dropped_at (suc n) (x ∷ xs) i = let next : suc (n + i) ≡ suc n + i = omega arith in dropped_at n xs i ∙ ap (slice_get (x ∷ xs)) next
 
 -- the front up to one more item
 pub take_push : {X : Type 0} (xs : List X) (k : ℕ) (x : X) → slice_get xs k ≡ Some x → take (suc k) xs ≡ take k xs ++ x ∷ []
