@@ -4,8 +4,6 @@ use Rattle.std.specs.Prelude.{Some, None, Contains, find}
 use Rattle.po_lists.proofs.Members.{contains_none, contains_cases, contains_head, contains_tail}
 use Rattle.po_lists.proofs.Booleans.{bool_cases}
 
-]
-
 pub find_there : {X : Type 0} (p : X → Bool) (xs : List X) (y : X) → find p xs ≡ Some y → Contains xs y × (p y ≡ true)
 find_there p [] y h = absurd (cc)
 find_there p (x ∷ xs) y h = elim (bool_cases (p x)) [

@@ -24,8 +24,6 @@ use Rattle.po_symbols.specs.declared.causes.Cause.{Cause}
 abbrev pub Name : Type 0
 Name = List ℕ
 
-]
-
 -- keys behind another are above it
 sorted_behind : {X : Type 0} (c : Name → Name → Ordering) (before : List (Name × X)) (e : Name × X) (rest : List (Name × X)) (x : Name × X) → IsStrictlySortedBy c (keys_of (before ++ e ∷ rest)) → Contains rest x → c e.0 x.0 ≡ Less
 sorted_behind c [] e rest x s k = All-contains (λ y. c e.0 y ≡ Less) (keys_of rest) x.0 (All-from_recursion _ (keys_of rest) (sorted_head c e.0 (keys_of rest) s)) (contains_map (λ z. z.0) rest x k)
