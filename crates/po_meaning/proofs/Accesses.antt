@@ -45,7 +45,7 @@ use Rattle.po_meaning.specs.Staying.{AreUnwritten}
 use Rattle.po_meaning.proofs.Places.{same_or_not, held_within}
 use Rattle.po_meaning.proofs.Frames.{told_at}
 use Rattle.po_meaning.proofs.Held.{asks_hold, on_pointer, on_number, load_spans, store_allowed, copy_spans, copy_writes}
-use Rattle.po_meaning.proofs.Memory.{Lives, Kept, kept_since, since_at, longer, bytes_still, belongs_after, set_here, set_all}
+use Rattle.po_meaning.proofs.Memory.{Lives, Kept, kept_since, since_at, longer, bytes_still, belongs_after, changed_here, set_all}
 use Rattle.po_meaning.proofs.Parts.{stored_there, copied_there, zeros_there, pasted_there, range_there, read_there, read_lies, read_size}
 use Rattle.po_meaning.proofs.Plain.{typed_as, fits_before, pointer_lies, pointer_there, put_stays, goes_stays, arrives}
 use Rattle.po_meaning.proofs.Results.{kept_value}
@@ -78,7 +78,7 @@ module _ (p : Project) (top : Frame) (rest : List Frame) (m : List Block) (at : 
   size_kept : length now.bytes ≤ greatest_size
   size_kept =
       let found = since_at false true m after block whole since there in
-      let same : found.0 ≡ now = one_value (slice_get after block) found.0 now found.1 (set_here m block whole now there) in
+      let same : found.0 ≡ now = one_value (slice_get after block) found.0 now found.1 (changed_here m block whole now there) in
       let size : length now.bytes ≡ length whole.bytes = ap (λ (d : Block). length d.bytes) (sym same) ∙ found.2.size in
       subst (λ (n : ℕ). n ≤ greatest_size) (sym size) (all_at (λ (c : Block). length c.bytes ≤ greatest_size) m block whole before.sizes there)
 

@@ -201,8 +201,8 @@ module _ (p : Project) (top : Frame) (rest : List Frame) (m w : List Block) (Die
 -- ---- one block that changes, and one more
 
 module _ (m : List Block) (b : ℕ) (c d : Block) (there : slice_get m b ≡ Some c) where
-  pub set_here : slice_get (slice_set m b d) b ≡ Some d
-  set_here = set_here m b d (slice_get_within m b c there)
+  pub changed_here : slice_get (slice_set m b d) b ≡ Some d
+  changed_here = set_here m b d (slice_get_within m b c there)
 
   pub set_kept : (Dies : ℕ → Type 0) (statics : ℕ) → BlockKept (Dies b) (b < statics) c d → Kept Dies statics m (slice_set m b d)
   set_kept Dies statics k j x here = by (same_or_not j b)
@@ -210,19 +210,15 @@ module _ (m : List Block) (b : ℕ) (c d : Block) (there : slice_get m b ≡ Som
       by : (j ≡ b) ⊎ (j ≢ b) → BlockIsKept Dies statics (slice_set m b d) j x
       by (inl same) =
           let known : c ≡ x = one_value (slice_get m b) c x there (subst (λ (i : ℕ). slice_get m i ≡ Some x) same here) in
-          subst (λ (i : ℕ). BlockIsKept Dies statics (slice_set m b d) i x) (sym same) (d, set_here, subst (λ (y : Block). BlockKept (Dies b) (b < statics) y d) known k)
+          subst (λ (i : ℕ). BlockIsKept Dies statics (slice_set m b d) i x) (sym same) (d, changed_here, subst (λ (y : Block). BlockKept (Dies b) (b < statics) y d) known k)
       by (inr other) = (x, set_elsewhere m b j d other ∙ here, block_same (Dies j) (j < statics) x)
 
   pub set_all : (P : Block → Type 0) → All P m → P d → All P (slice_set m b d)
   set_all P all is = all_places P (slice_set m b d) (λ j x here. by j x here (same_or_not j b))
     where
       by : (j : ℕ) (x : Block) → slice_get (slice_set m b d) j ≡ Some x → (j ≡ b) ⊎ (j ≢ b) → P x
-      by j x here (inl same) = subst P (one_value (slice_get (slice_set m b d) b) d x set_here (subst (λ (i : ℕ). slice_get (slice_set m b d) i ≡ Some x) same here)) is
+      by j x here (inl same) = subst P (one_value (slice_get (slice_set m b d) b) d x changed_here (subst (λ (i : ℕ). slice_get (slice_set m b d) i ≡ Some x) same here)) is
       by j x here (inr other) = all_at P m j x all (sym (set_elsewhere m b j d other) ∙ here)
-
-pub get_end : {X : Type 0} (xs : List X) (x : X) → slice_get (xs ++ x ∷ []) (length xs) ≡ Some x
-get_end [] x = refl
-get_end (y ∷ xs) x = get_end xs x
 
 pub new_kept : (statics : ℕ) (m : List Block) (c : Block) → Kept Lives statics m (m ++ c ∷ [])
 new_kept statics m c b x here = (x, kept_at m (c ∷ []) b x here, block_same ⊥ (b < statics) x)

@@ -4,7 +4,7 @@ use Rattle.std.proofs.Common.{refl, sym, ap, ◌∙◌, subst, arith, inl, inr}
 use Rattle.std.proofs.lemmas.List.{length-set, length-replicate}
 use Rattle.std.proofs.lemmas.List.Elements.{All-nil, All-cons, All-append, All-replicate}
 use Rattle.std.proofs.lemmas.Option.{slice_get_within}
-use Rattle.po_lists.proofs.Places.{all_at, set_here, set_elsewhere, all_tail, all_head, item_at}
+use Rattle.po_lists.proofs.Places.{all_at, set_here, set_elsewhere, all_tail, all_head, item_at, behind_at}
 use Rattle.po_lists.proofs.Options.{one_value}
 use Rattle.po_lists.proofs.Members.{contains_head}
 use Rattle.po_base.specs.declared.numbers.FunNo.{FunNo}
@@ -30,7 +30,7 @@ use Rattle.po_meaning.specs.Needs.{Needs, NeedsSlot}
 use Rattle.po_meaning.specs.Belongs.{HasSome, FrameBelongs, Wait, static_blocks, HasEntered, IsOfSlot, SlotsBelong, IsPartThere, FramePoints, Belongs}
 use Rattle.po_meaning.proofs.Places.{same_or_not, held_within}
 use Rattle.po_meaning.proofs.Frames.{Fits, belongs_of, reach_more, register_before, slot_before, some_not_none}
-use Rattle.po_meaning.proofs.Memory.{Lives, Kept, BlockKept, longer, bytes_still, belongs_after, set_kept, set_all, get_end, new_kept, statics_below}
+use Rattle.po_meaning.proofs.Memory.{Lives, Kept, BlockKept, longer, bytes_still, belongs_after, set_kept, set_all, new_kept, statics_below}
 use Rattle.po_meaning.proofs.Plain.{fits_before, points_before, arrives}
 use Rattle.po_meaning.proofs.States.{state, some_same}
 
@@ -280,7 +280,7 @@ module _ (library : List Signature) (p : Project) (f : Function) (s u : State) (
       new_block : (x : Slot) (b : ℕ) → known ≡ x → b ≡ length s.memory → (d : Block) × (slice_get (s.memory ++ c ∷ []) b ≡ Some d) × IsOfSlot p x b d
       new_block x b is same = (
         c,
-        subst (λ (j : ℕ). slice_get (s.memory ++ c ∷ []) j ≡ Some c) (sym same) (get_end s.memory c),
+        subst (λ (j : ℕ). slice_get (s.memory ++ c ∷ []) j ≡ Some c) (sym same) (behind_at s.memory [] c),
         subst (λ (y : Slot). IsOfSlot p y b c) is (record {
           size = size_now;
           align = new.align;
