@@ -1,3 +1,4 @@
+pub mod Forms
 pub mod Scopes
 pub mod Operands
 pub mod Constants
