@@ -1,4 +1,5 @@
 pub mod OneConstant
+pub mod OneWordType
 pub mod OneType
 pub mod OneBase
 pub mod OneForm

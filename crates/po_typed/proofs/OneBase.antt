@@ -2,7 +2,7 @@
 use Rattle.std.proofs.Common.{◌≡◌, ℕ, List, [], ◌∷◌, ◌++◌, Option, Some, None, Bool, true, false, refl, sym, ap, ◌∙◌, subst, All, Contains}
 use Rattle.std.proofs.lemmas.List.Elements.{All-nil, All-cons, All-head, All-tail, All-weaker}
 use Rattle.po_arith.specs.declared.target.Target.{Target}
-use Rattle.po_tree.specs.declared.expression.Specifier.{Specifier, out-Specifier, out-roll-Specifier}
+use Rattle.po_tree.specs.declared.expression.Specifier.{Specifier, out-Specifier}
 use Rattle.po_tree.specs.declared.expression.Specifier.TheVariants as sp
 use Rattle.po_tree.specs.declared.expression.Exp.TheOpen.{Specifier-F}
 use Rattle.po_tree.specs.declared.expression.TypeName.{TypeName}
@@ -12,17 +12,14 @@ use Rattle.po_typed.specs.Forms.{SpecifierLayer}
 use Rattle.po_typed.specs.Scopes.{Context, Meaning, Tag, global, function, local, type_name, constant, struct_tag, enum_tag}
 use Rattle.po_typed.specs.BaseTypes.{IsPlainWord, TypeWords, no_more_words, word_of_type, other_word, IsWordType, starred}
 use Rattle.po_typed.specs.Expressions.{IsInForce, typedef_in_force, struct_in_force, enum_in_force, IsBase, base_words, base_of_one, IsStarredBase}
-use Rattle.po_typed.proofs.OneConstant.{word_type_is_one}
-
-pub out_Word : (text : List ℕ) → out-Specifier (sp.Word text) ≡ Specifier-F.Word text
-out_Word text = ap out-Specifier (sym (sp.rolls-Word text)) ∙ out-roll-Specifier (Specifier-F.Word text)
+use Rattle.po_typed.proofs.OneWordType.{out_word, word_type_is_one}
 
 abbrev pub IsWord : SpecifierLayer → Type 0
 IsWord (Specifier-F.Word text) = Unit {0}
 IsWord _ = ⊥
 
 is_word : (text : List ℕ) → IsWord (out-Specifier (sp.Word text))
-is_word text = rw (out_Word text) tt
+is_word text = rw (out_word text) tt
 
 plain_is_word : (s : Specifier) → IsPlainWord s → IsWord (out-Specifier s)
 plain_is_word s p = rw p.1 (is_word p.0)

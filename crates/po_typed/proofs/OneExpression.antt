@@ -28,10 +28,9 @@ use Rattle.po_typed.specs.Scopes.{Context, Meaning, global, function, local, typ
 use Rattle.po_typed.specs.Operands.{value_type, arithmetic_operators, shift_operators, comparisons}
 use Rattle.po_typed.specs.Constants.{AreStrings, Becomes, Computes, Shifts, Compares, complemented}
 use Rattle.po_typed.specs.Expressions.{Pair, pair, int, char, printf_type, IsObject, of_file, of_block, IsStarredBase, Types, object, enumerator, number, character, string, parenthesised, subscript, subscript_first, call, print, member, arrow, post_increment, post_decrement, pre_increment, pre_decrement, address, indirection, plus, minus, complement, negation, size_of_expression, size_of_type, cast_to_void, cast_number, cast_pointer, cast_null, cast_to_bool, binary, null_right, null_left, logical_and, logical_or, conditional, assignment, compound_number, compound_pointer, comma, Operand, operand, Assigned, assigned_number, assigned_struct, assigned_pointer, assigned_null, assigned_bool, Passes, no_more_arguments, argument, Prints, no_more_printed, printed_int, printed_long, printed_size, printed_text, Named, named_plain, named_array, IsArray, sized_first, unsized_first, Sized, no_more_sizes, one_more_size, Constant, constant_number, constant_character, constant_enumerator, constant_paren, constant_plus, constant_minus, constant_complement, constant_not, constant_size_of_expression, constant_size_of_type, constant_cast, constant_arithmetic, constant_shift, constant_comparison, constant_and, constant_and_zero, constant_or, constant_or_one, constant_second, constant_third}
-use Rattle.po_typed.proofs.OneConstant.{number_is_one, character_is_one, strings_are_one, becomes_one, computes_one, shifts_one, compares_one}
-use Rattle.po_typed.proofs.OneType.{one_some, found_or_not, never, one_integer, one_pointee, one_structure, one_signature, no_pointer, one_tested, one_stepped, Class, computing, shifting, comparing, class_of, is_computing, is_shifting, is_comparing, Combination, combine, combination, is_combination, right_with_null, left_with_null, one_combination, one_chosen}
+use Rattle.po_typed.proofs.OneConstant.{number_is_one, character_is_one, strings_are_one, becomes_one, computes_one, shifts_one, compares_one, one_some}
+use Rattle.po_typed.proofs.OneType.{found_or_not, never, one_integer, one_pointee, one_structure, one_signature, no_pointer, one_tested, one_stepped, Class, computing, shifting, comparing, class_of, is_computing, is_shifting, is_comparing, Combination, combine, combination, is_combination, right_with_null, left_with_null, one_combination, one_chosen}
 use Rattle.po_typed.proofs.OneBase.{one_starred}
-
 use Rattle.po_typed.proofs.OneForm.{SameTyping, SameNamed, SameConstant, alone, first, joined, between, word_type, constant_in, word_of, texts_of, sizes_of, cast_as, as_void, as_number, as_pointer, object_type, one_function, word_parts, cast_parts, binary_parts, assigned_parts, assigned_as, first_is_sized, strings_as, format_as, prints_as, array_as, one_becoming, one_computed, one_shifted, one_compared, computes_or_shifts, computes_or_compares, shifts_or_compares}
 
 module _ (one_format : OneFormat) (ctx : Context) where
@@ -195,14 +194,14 @@ module _ (one_format : OneFormat) (ctx : Context) where
     one_assigned (assigned_null s t h A) d = let P = assigned_parts ctx d in let Q = one_operand A P.operand in Q.pairs refl
     one_assigned (assigned_bool u A) d = let P = assigned_parts ctx d in let Q = one_operand A P.operand in Q.pairs refl
 
-    one_passed : {xs : List Exp} {ts us : List CType} {ps qs : List Pair} → Passes ctx xs ts ps → Passes ctx xs us qs → ts ≡ us → ps ≡ qs
+    pub one_passed : {xs : List Exp} {ts us : List CType} {ps qs : List Pair} → Passes ctx xs ts ps → Passes ctx xs us qs → ts ≡ us → ps ≡ qs
     one_passed no_more_arguments no_more_arguments e = refl
     one_passed (argument {t = t} {ts = ts} A B) (argument {t = t'} {ts = ts'} A' B') e =
         let e1 : t ≡ t' = cc in
         let e2 : ts ≡ ts' = cc in
         joined (one_assigned A (assigned_as ctx A' e1)) (one_passed B B' e2)
 
-    one_printed : {xs : List Exp} {fs : List Spec} {ps qs : List Pair} → Prints ctx xs fs ps → Prints ctx xs fs qs → ps ≡ qs
+    pub one_printed : {xs : List Exp} {fs : List Spec} {ps qs : List Pair} → Prints ctx xs fs ps → Prints ctx xs fs qs → ps ≡ qs
     one_printed no_more_printed no_more_printed = refl
     one_printed (printed_int s h A B) (printed_int s' h' A' B') =
         let Q = one_operand A A' in
@@ -231,7 +230,7 @@ module _ (one_format : OneFormat) (ctx : Context) where
     one_array (unsized_first A h) (sized_first A') e = absurd (first_is_sized ctx A')
     one_array (unsized_first A h) (unsized_first A' h') e = let S = one_sized A A' e in record { type = ap (λ z. c.Array z None) S.type; pairs = S.pairs }
 
-    one_sized : {t t' u u' : CType} {sizes : List (Option Exp)} {ps qs : List Pair} → Sized ctx t sizes u ps → Sized ctx t' sizes u' qs → t ≡ t' → SameNamed u ps u' qs
+    pub one_sized : {t t' u u' : CType} {sizes : List (Option Exp)} {ps qs : List Pair} → Sized ctx t sizes u ps → Sized ctx t' sizes u' qs → t ≡ t' → SameNamed u ps u' qs
     one_sized no_more_sizes no_more_sizes e = record { type = e; pairs = refl }
     one_sized (one_more_size {u = u} {n = n} A C l B h k) (one_more_size {u = u'} {n = n'} A' C' l' B' h' k') e =
         let Q = one_type A A' in

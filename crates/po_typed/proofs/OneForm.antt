@@ -28,8 +28,8 @@ use Rattle.po_typed.specs.Scopes.{Context, Meaning, global, function, local, typ
 use Rattle.po_typed.specs.Operands.{value_type, arithmetic_operators, shift_operators, comparisons}
 use Rattle.po_typed.specs.Constants.{AreStrings, Becomes, Computes, Shifts, Compares, complemented}
 use Rattle.po_typed.specs.Expressions.{Pair, pair, int, char, printf_type, IsObject, of_file, of_block, IsStarredBase, Types, object, enumerator, number, character, string, parenthesised, subscript, subscript_first, call, print, member, arrow, post_increment, post_decrement, pre_increment, pre_decrement, address, indirection, plus, minus, complement, negation, size_of_expression, size_of_type, cast_to_void, cast_number, cast_pointer, cast_null, cast_to_bool, binary, null_right, null_left, logical_and, logical_or, conditional, assignment, compound_number, compound_pointer, comma, Operand, operand, Assigned, assigned_number, assigned_struct, assigned_pointer, assigned_null, assigned_bool, Passes, no_more_arguments, argument, Prints, no_more_printed, printed_int, printed_long, printed_size, printed_text, Named, named_plain, named_array, IsArray, sized_first, unsized_first, Sized, no_more_sizes, one_more_size, Constant, constant_number, constant_character, constant_enumerator, constant_paren, constant_plus, constant_minus, constant_complement, constant_not, constant_size_of_expression, constant_size_of_type, constant_cast, constant_arithmetic, constant_shift, constant_comparison, constant_and, constant_and_zero, constant_or, constant_or_one, constant_second, constant_third}
-use Rattle.po_typed.proofs.OneConstant.{number_is_one, character_is_one, strings_are_one, becomes_one, computes_one, shifts_one, compares_one}
-use Rattle.po_typed.proofs.OneType.{one_some, found_or_not, never, one_integer, one_pointee, one_structure, one_signature, no_pointer, one_tested, one_stepped, Class, computing, shifting, comparing, class_of, is_computing, is_shifting, is_comparing, Combination, combine, combination, is_combination, right_with_null, left_with_null, one_combination, one_chosen}
+use Rattle.po_typed.proofs.OneConstant.{number_is_one, character_is_one, strings_are_one, becomes_one, computes_one, shifts_one, compares_one, one_some}
+use Rattle.po_typed.proofs.OneType.{found_or_not, never, one_integer, one_pointee, one_structure, one_signature, no_pointer, one_tested, one_stepped, Class, computing, shifting, comparing, class_of, is_computing, is_shifting, is_comparing, Combination, combine, combination, is_combination, right_with_null, left_with_null, one_combination, one_chosen}
 use Rattle.po_typed.proofs.OneBase.{one_starred}
 
 -- one type, and one list of pairs where both are converted to one type
@@ -190,13 +190,40 @@ module _ (ctx : Context) where
 
   pub binary_parts : {o : Op} {x y : Exp} {r to : CType} {ps : List Pair} → Types ctx (Exp-F.Binary o x y) r to ps → BinaryParts o x y r to ps
   binary_parts (binary {t = t} {u = u} {a = a} {b = b} {ps = ps} {qs = qs} h A B) = record {
-    first_type = t; second_type = u; left = a; right = b; before = ps; behind = qs; combined = is_combination h; first_operand = A; second_operand = B; pairs = refl;
+    first_type = t;
+    second_type = u;
+    left = a;
+    right = b;
+    before = ps;
+    behind = qs;
+    combined = is_combination h;
+    first_operand = A;
+    second_operand = B;
+    pairs = refl;
   }
   binary_parts (null_right {o = o} t s {ps = ps} {qs = qs} h n A B) = record {
-    first_type = c.Ptr t; second_type = c.Int s; left = c.Ptr t; right = c.Ptr t; before = ps; behind = qs; combined = right_with_null ctx o t s h; first_operand = A; second_operand = B; pairs = refl;
+    first_type = c.Ptr t;
+    second_type = c.Int s;
+    left = c.Ptr t;
+    right = c.Ptr t;
+    before = ps;
+    behind = qs;
+    combined = right_with_null ctx o t s h;
+    first_operand = A;
+    second_operand = B;
+    pairs = refl;
   }
   binary_parts (null_left {o = o} t s {ps = ps} {qs = qs} h n A B) = record {
-    first_type = c.Int s; second_type = c.Ptr t; left = c.Ptr t; right = c.Ptr t; before = ps; behind = qs; combined = left_with_null ctx o t s h; first_operand = A; second_operand = B; pairs = refl;
+    first_type = c.Int s;
+    second_type = c.Ptr t;
+    left = c.Ptr t;
+    right = c.Ptr t;
+    before = ps;
+    behind = qs;
+    combined = left_with_null ctx o t s h;
+    first_operand = A;
+    second_operand = B;
+    pairs = refl;
   }
 
   pub record AssignedParts (x : Exp) (t : CType) (ps : List Pair) : Type 0 where

@@ -13,15 +13,8 @@ use Rattle.po_types.specs.Types.{integer, integer_layer, pointee, pointee_layer,
 use Rattle.po_types.specs.TypesLaws.{out_Void, out_Int, out_Ptr, out_Array, out_Struct, out_Fun}
 use Rattle.po_typed.specs.Scopes.{Context}
 use Rattle.po_typed.specs.Operands.{Tested, tested_number, tested_pointer, Stepped, stepped_number, stepped_pointer, Combines, arithmetic, shift, numbers_compared, pointers_compared, pointer_plus, plus_pointer, pointer_minus, difference, compared_as, arithmetic_operators, shift_operators, equality_operators, comparisons}
+use Rattle.po_typed.proofs.OneConstant.{one_some}
 use Rattle.po_typed.specs.Expressions.{IsNullPointer, Chooses, numbers, structs, voids, pointers, zero_right, zero_left, null_pointer_right, null_pointer_left, void_right, void_left}
-
-abbrev some_or : {A : Type 0} → A → Option A → A
-some_or d None = d
-some_or d (Some x) = x
-
--- a thing that is found twice
-pub one_some : {A : Type 0} {z : Option A} {x y : A} → z ≡ Some x → z ≡ Some y → x ≡ y
-one_some {x = x} f g = ap (some_or x) (sym f ∙ g)
 
 pub found_or_not : {A B : Type 0} {z : Option A} {x : A} → z ≡ Some x → z ≡ None → B
 found_or_not f g = absurd cc

@@ -8,3 +8,4 @@ pub mod Initialisers
 pub mod Declarations
 pub mod Statements
 pub mod Environments
+pub mod Laws
