@@ -310,3 +310,6 @@ fits_plain n some h = let size = size-plain in omega (arith, size, some)
 
 pub fits_itself : (s : Suffix) (n : ℕ) → 1 ≤ n → Fits n (leaf.Suffix s) → size-Suffix s ≤ n
 fits_itself s n some h = h
+
+pub fits_along : (n : ℕ) (gone gone' : Leaf) → gone ≡ gone' → Fits n gone → Fits n gone'
+fits_along n gone gone' q h = subst (Fits n) q h

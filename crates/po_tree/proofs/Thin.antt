@@ -13,7 +13,7 @@ use Rattle.po_tree.specs.declared.expression.Suffix.TheVariants as su
 use Rattle.po_tree.specs.declared.expression.Declarator.{Declarator, size-Declarator, size_is-Declarator}
 use Rattle.po_tree.specs.declared.expression.Member.{Member, out-Member, size-Member, size_is-Member}
 use Rattle.po_tree.specs.declared.expression.Param.{Param, out-Param, size-Param, size_is-Param}
-use Rattle.po_tree.specs.Dropping.{Each, EachOf, Thin, a_body, as_deep, ThinSuffix, a_list, as_deep_suffix, ThinMember, a_member, ThinParam, a_param, kept_suffix}
+use Rattle.po_tree.specs.Dropping.{Each, EachOf, IsThin, Thin, a_body, as_deep, ThinSuffix, a_list, as_deep_suffix, ThinMember, a_member, ThinParam, a_param, kept_suffix}
 use Rattle.po_tree.proofs.Gathered.{same_members}
 use Rattle.po_tree.proofs.Sets.{none_contained}
 
@@ -23,19 +23,19 @@ size-body tag ms = let q = sized-Struct tag (Some ms) in omega (arith, q)
 size-tag : (tag : Option (List ℕ)) → size-Specifier (sp.Struct tag None) ≡ 1
 size-tag tag = let q = sized-Struct tag None in omega (arith, q)
 
-size-list : (ps : List Param) (more : Bool) → size-Suffix (su.Params ps more) ≡ most size-Param ps + 1
+pub size-list : (ps : List Param) (more : Bool) → size-Suffix (su.Params ps more) ≡ most size-Param ps + 1
 size-list ps more = let q = sized-Params ps more in omega (arith, q)
 
 pub size-plain : size-Suffix su.Plain ≡ 1
 size-plain = let q = sized-Plain in omega (arith, q)
 
-size-declarator : (d : Declarator) → size-Declarator d ≡ size-Suffix d.suffix + 1
+pub size-declarator : (d : Declarator) → size-Declarator d ≡ size-Suffix d.suffix + 1
 size-declarator d = let q = size_is-Declarator d in omega (arith, q)
 
-size-member : (m : Member) → size-Member m ≡ max (most size-Specifier (out-Member m).specs) (most size-Declarator (out-Member m).declarators) + 1
+pub size-member : (m : Member) → size-Member m ≡ max (most size-Specifier (out-Member m).specs) (most size-Declarator (out-Member m).declarators) + 1
 size-member m = let q = size_is-Member m in omega (arith, q)
 
-size-param : (p : Param) → size-Param p ≡ max (most size-Specifier (out-Param p).specs) (size-Declarator (out-Param p).declarator) + 1
+pub size-param : (p : Param) → size-Param p ≡ max (most size-Specifier (out-Param p).specs) (size-Declarator (out-Param p).declarator) + 1
 size-param p = let q = size_is-Param p in omega (arith, q)
 
 contained_most : {A : Type 0} (f : A → ℕ) (xs : List A) (x : A) → Contains xs x → f x ≤ most f xs
@@ -77,6 +77,12 @@ deep_members n ms h m c = deep_member n m (let inside = contained_most size-Memb
 
 pub deep_params : (n : ℕ) (ps : List Param) → most size-Param ps ≤ n → Each (ThinParam n) ps
 deep_params n ps h p c = deep_param n p (let inside = contained_most size-Param ps p c in omega (arith, inside, h))
+
+pub thin_members : (members : List Member) → IsThin (most size-Member members) (record { here = Some members; way = None; coming = None; waiting = None })
+thin_members members = ((deep_members _ members (omega arith), tt), (tt, tt))
+
+pub thin_params : (params : List Param) → IsThin (most size-Param params) (record { here = None; way = None; coming = Some params; waiting = None })
+thin_params params = ((tt, tt), (deep_params _ params (omega arith), tt))
 
 -- specifiers
 

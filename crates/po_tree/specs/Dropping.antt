@@ -98,11 +98,6 @@ mutual
   pub data ThinParam (n : ℕ) : Param → Type 0 where
     a_param : (p : Param) → 1 ≤ n → ((s : Specifier) → Contains (out-Param p).specs s → Thin n s) → ThinSuffix n (out-Param p).declarator.suffix → ThinParam n p
 
--- how deep the items are
-abbrev pub deepest : {A : Type 0} → (A → ℕ) → Option (List A) → ℕ
-deepest f None = 0
-deepest f (Some xs) = most f xs
-
 abbrev pub IsThin : ℕ → Left → Type 0
 IsThin n l = (EachOf (ThinMember n) l.here × EachOf (ThinMember n) l.way) × (EachOf (ThinParam n) l.coming × EachOf (ThinParam n) l.waiting)
 

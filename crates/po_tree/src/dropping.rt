@@ -71,7 +71,7 @@ pub(crate) fn drop_specifiers(specs: List<Specifier>) {
             Some(spec) => {
                 left = rest;
                 match body_of(spec) {
-                    Found::Body(_tag, members) => drop_nested(Some(members), None),
+                    Found::Body(_tag, members) => drop_members(members),
                     Found::Other(spec) => drop(spec),
                 }
             }
@@ -86,17 +86,51 @@ pub(crate) fn drop_declarator(declarator: Declarator) {
     match suffix {
         Suffix::Plain => {}
         Suffix::Arrays(sizes) => drop(sizes),
-        Suffix::Params(params, _) => drop_nested(None, Some(params)),
+        Suffix::Params(params, _) => drop_params(params),
     }
 }
 
-/// Drops members and parameters, and what is nested in them.
+/// Drops members, and what is nested in them.
 #[cycle(dropping)]
-fn drop_nested(members: Option<List<Member>>, params: Option<List<Param>>) {
+fn drop_members(members: List<Member>) {
     let mut left = Left {
-        here: members,
+        here: Some(members),
         way: None,
-        coming: params,
+        coming: None,
+        waiting: None,
+    };
+    loop {
+        match take_step(left) {
+            Step::Done => return,
+            Step::Next(next, leaf) => {
+                left = next;
+                match leaf {
+                    Leaf::Nothing => {}
+                    Leaf::Specifier(spec) => drop(spec),
+                    Leaf::Suffix(suffix) => drop(suffix),
+                    Leaf::Member(specs, declarators) => {
+                        drop(specs);
+                        drop(declarators);
+                    }
+                    Leaf::Param(specs, suffix) => {
+                        drop(specs);
+                        drop(suffix);
+                    }
+                    Leaf::Members(list) => drop(list),
+                    Leaf::Params(list) => drop(list),
+                }
+            }
+        }
+    }
+}
+
+/// Drops parameters, and what is nested in them.
+#[cycle(dropping)]
+fn drop_params(params: List<Param>) {
+    let mut left = Left {
+        here: None,
+        way: None,
+        coming: Some(params),
         waiting: None,
     };
     loop {
