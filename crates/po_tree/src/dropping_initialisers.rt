@@ -1,6 +1,6 @@
 // How initialisers are dropped, however deep their braces are nested: in a loop that takes no new memory. Where it goes into braces, the way
 // back is kept in their place.
-ghost use Rattle.std.specs.Prelude.{◌≡◌, ◌<◌, ◌∷◌, ◌++◌, [], vec_len, vec_capacity, Some};
+ghost use Rattle.std.specs.Prelude.{◌≡◌, ◌<◌, ◌+◌, vec_len, vec_capacity, Some, None};
 ghost use Rattle.po_tree.specs.DroppingInitialisers.{Goes, way_weight, total_weight};
 
 use crate::declaration::{Init, InitParts};
