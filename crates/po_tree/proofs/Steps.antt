@@ -1,7 +1,7 @@
 -- The steps of the loop that drops what is nested.
-use Rattle.std.proofs.Common.{◌≡◌, ℕ, suc, ◌+◌, ◌<◌, ◌≤◌, ◌*◌, ◌-◌, List, [], ◌∷◌, ◌++◌, map, ap, sym, ◌∙◌, subst, arith, refl}
+use Rattle.std.proofs.Common.{◌≡◌, ℕ, ◌<◌, ◌≤◌, List, [], ◌∷◌, ◌++◌, map, ap, sym, ◌∙◌, subst, arith, refl}
 use Rattle.std.specs.Prelude.{Option, Some, None, Bool}
-use Rattle.po_tree.specs.declared.expression.Specifier.{Specifier, size-Specifier}
+use Rattle.po_tree.specs.declared.expression.Specifier.{Specifier}
 use Rattle.po_tree.specs.declared.expression.Specifier.TheVariants as sp
 use Rattle.po_tree.specs.declared.expression.Exp.{Exp}
 use Rattle.po_tree.specs.declared.expression.Suffix.{Suffix, size-Suffix}
@@ -15,10 +15,10 @@ use Rattle.po_tree.specs.declared.dropping.Leaf.TheVariants as leaf
 use Rattle.po_tree.specs.declared.dropping.Step.{Step}
 use Rattle.po_tree.specs.declared.dropping.Step.TheVariants as step
 use Rattle.po_tree.specs.Gathering.{total}
-use Rattle.po_tree.specs.Dropping.{weight, suffix_weight, declarator_weight, member_weight, param_weight, list_weight, whole, front, measure, Goes, Passes, Advances, Lightens, IsThin, Parts, ThinMember, ThinParam, ThinSuffix, Each, EachOf, Fits, kept_suffix}
+use Rattle.po_tree.specs.Dropping.{weight, suffix_weight, declarator_weight, member_weight, param_weight, whole, front, Goes, Passes, Advances, IsThin, Parts, ThinMember, ThinParam, ThinSuffix, Each, Fits, kept_suffix}
 use Rattle.po_tree.proofs.Squares.{squares_less, squares_same}
 use Rattle.po_tree.proofs.Weights.{total_push, weight-body, weight-some, kept_weight, suffix_weight-plain, suffix_weight-arrays, suffix_weight-params, declarator_weight-parts, heavy_member, light_member, weight_of_params}
-use Rattle.po_tree.proofs.Thin.{each_none, each_last, each_rest, each_push, thin_body, thin_bare, thin_struct, thin_kept, thin_list, thin_leaf, arrays_no_params, size-plain, member_specs, member_declarators, make_member, param_some, param_specs, param_suffix, make_param}
+use Rattle.po_tree.proofs.Thin.{each_last, each_rest, each_push, thin_body, thin_bare, thin_struct, thin_kept, thin_list, thin_leaf, arrays_no_params, size-plain, member_specs, member_declarators, make_member, param_some, param_specs, param_suffix, make_param}
 
 -- why the loop ends
 
@@ -40,23 +40,23 @@ pub past_specifier : (ms ms' rest : List Member) (m m' : Member) (specs : List S
     Goes (record { here = Some ms; way = way; coming = None; waiting = waiting }) (step.Next (record { here = Some ms'; way = way; coming = None; waiting = waiting }) (leaf.Specifier t))
 past_specifier ms ms' rest m m' specs ds s t way waiting q p d q' p' d' same bare =
     let before = heavy_member ms rest m specs s q p in
-      let behind = light_member ms' rest m' specs q' p' in
-      let a = ap (λ v. total (map declarator_weight v)) d in
-      let b = ap (λ v. total (map declarator_weight v)) d' in
-      let some = weight-some s in lighter _ _ _ (omega (arith, before, behind, a, b, some)) (
-        λ n thin.
-      let last = each_last (ThinMember n) ms rest m q thin.0.0 in
-      let deep = thin_bare n s bare (each_last _ _ specs s p (member_specs n m last)) in (
+    let behind = light_member ms' rest m' specs q' p' in
+    let a = ap (λ v. total (map declarator_weight v)) d in
+    let b = ap (λ v. total (map declarator_weight v)) d' in
+    let some = weight-some s in lighter _ _ _ (omega (arith, before, behind, a, b, some)) (
+    λ n thin.
+    let last = each_last (ThinMember n) ms rest m q thin.0.0 in
+    let deep = thin_bare n s bare (each_last _ _ specs s p (member_specs n m last)) in (
+      (
         (
-          (
-            each_push (ThinMember n) ms' rest m' q' (each_rest (ThinMember n) ms rest m q thin.0.0)
-                (make_member n m' specs ds p' d' (each_rest _ _ specs s p (member_specs n m last)) (rw (sym d) (member_declarators n m last))),
-            thin.0.1,
-          ),
-          thin.1,
+          each_push (ThinMember n) ms' rest m' q' (each_rest (ThinMember n) ms rest m q thin.0.0)
+              (make_member n m' specs ds p' d' (each_rest _ _ specs s p (member_specs n m last)) (rw (sym d) (member_declarators n m last))),
+          thin.0.1,
         ),
-        rw same deep,
-      ))
+        thin.1,
+      ),
+      rw same deep,
+    ))
 
 pub into_body : (ms way' rest body : List Member) (m m' : Member) (specs specs' : List Specifier) (ds : List Declarator) (s : Specifier) (tag : Option (List ℕ)) (way : Option (List Member)) (waiting : Option (List Param)) →
     ms ≡ rest ++ m ∷ [] → (out-Member m).specs ≡ specs ++ s ∷ [] → (out-Member m).declarators ≡ ds → way' ≡ rest ++ m' ∷ [] → (out-Member m').specs ≡ specs' → specs' ≡ specs ++ sp.Struct tag way ∷ [] →
@@ -64,26 +64,26 @@ pub into_body : (ms way' rest body : List Member) (m m' : Member) (specs specs' 
     Goes (record { here = Some ms; way = way; coming = None; waiting = waiting }) (step.Next (record { here = Some body; way = Some way'; coming = None; waiting = waiting }) leaf.Nothing)
 into_body ms way' rest body m m' specs specs' ds s tag way waiting q p d q' p' r d' is =
     let before = heavy_member ms rest m specs s q p in
-      let behind = heavy_member way' rest m' specs (sp.Struct tag way) q' (p' ∙ r) in
-      let a = ap (λ v. total (map declarator_weight v)) d in
-      let b = ap (λ v. total (map declarator_weight v)) d' in
-      let inner = ap weight is ∙ weight-body tag (Some body) in
-      let other = weight-body tag way in nearer _ _ _ (omega (arith, before, behind, a, b, inner, other)) (omega (arith, before, inner)) (
-        λ n thin.
-      let last = each_last (ThinMember n) ms rest m q thin.0.0 in
-      let both = thin_body n s tag body is (each_last _ _ specs s p (member_specs n m last)) in (
+    let behind = heavy_member way' rest m' specs (sp.Struct tag way) q' (p' ∙ r) in
+    let a = ap (λ v. total (map declarator_weight v)) d in
+    let b = ap (λ v. total (map declarator_weight v)) d' in
+    let inner = ap weight is ∙ weight-body tag (Some body) in
+    let other = weight-body tag way in nearer _ _ _ (omega (arith, before, behind, a, b, inner, other)) (omega (arith, before, inner)) (
+    λ n thin.
+    let last = each_last (ThinMember n) ms rest m q thin.0.0 in
+    let both = thin_body n s tag body is (each_last _ _ specs s p (member_specs n m last)) in (
+      (
         (
-          (
-            both.1,
-            each_push (ThinMember n) way' rest m' q' (each_rest (ThinMember n) ms rest m q thin.0.0)
-                (make_member n m' (specs ++ sp.Struct tag way ∷ []) ds (p' ∙ r) d'
-                    (each_push _ _ specs (sp.Struct tag way) refl (each_rest _ _ specs s p (member_specs n m last)) (thin_struct n tag way both.0 thin.0.1))
-                    (rw (sym d) (member_declarators n m last))),
-          ),
-          thin.1,
+          both.1,
+          each_push (ThinMember n) way' rest m' q' (each_rest (ThinMember n) ms rest m q thin.0.0)
+              (make_member n m' (specs ++ sp.Struct tag way ∷ []) ds (p' ∙ r) d'
+              (each_push _ _ specs (sp.Struct tag way) refl (each_rest _ _ specs s p (member_specs n m last)) (thin_struct n tag way both.0 thin.0.1))
+              (rw (sym d) (member_declarators n m last))),
         ),
-        tt,
-      ))
+        thin.1,
+      ),
+      tt,
+    ))
 
 pub past_member : (ms rest ms' : List Member) (m : Member) (specs : List Specifier) (ds : List Declarator) (way : Option (List Member)) (waiting : Option (List Param)) →
     ms ≡ rest ++ m ∷ [] → ms' ≡ rest → (out-Member m).specs ≡ specs → specs ≡ [] → ds ≡ [] →
@@ -148,23 +148,23 @@ pub back_to : (way ms rest next : List Member) (m m' : Member) (specs : List Spe
     Goes (record { here = None; way = Some way; coming = None; waiting = waiting }) (step.Next (record { here = Some ms; way = Some next; coming = None; waiting = waiting }) leaf.Nothing)
 back_to way ms rest next m m' specs ds s tag waiting q p d q' p' d' is =
     let before = heavy_member way rest m specs s q p in
-      let behind = light_member ms rest m' specs q' p' in
-      let a = ap (λ v. total (map declarator_weight v)) d in
-      let b = ap (λ v. total (map declarator_weight v)) d' in
-      let inner = ap weight is ∙ weight-body tag (Some next) in lighter _ _ _ (omega (arith, before, behind, a, b, inner)) (
-        λ n thin.
-      let last = each_last (ThinMember n) way rest m q thin.0.1 in
-      let both = thin_body n s tag next is (each_last _ _ specs s p (member_specs n m last)) in (
+    let behind = light_member ms rest m' specs q' p' in
+    let a = ap (λ v. total (map declarator_weight v)) d in
+    let b = ap (λ v. total (map declarator_weight v)) d' in
+    let inner = ap weight is ∙ weight-body tag (Some next) in lighter _ _ _ (omega (arith, before, behind, a, b, inner)) (
+    λ n thin.
+    let last = each_last (ThinMember n) way rest m q thin.0.1 in
+    let both = thin_body n s tag next is (each_last _ _ specs s p (member_specs n m last)) in (
+      (
         (
-          (
-            each_push (ThinMember n) ms rest m' q' (each_rest (ThinMember n) way rest m q thin.0.1)
-                (make_member n m' specs ds p' d' (each_rest _ _ specs s p (member_specs n m last)) (rw (sym d) (member_declarators n m last))),
-            both.1,
-          ),
-          thin.1,
+          each_push (ThinMember n) ms rest m' q' (each_rest (ThinMember n) way rest m q thin.0.1)
+              (make_member n m' specs ds p' d' (each_rest _ _ specs s p (member_specs n m last)) (rw (sym d) (member_declarators n m last))),
+          both.1,
         ),
-        tt,
-      ))
+        thin.1,
+      ),
+      tt,
+    ))
 
 pub back_past : (way ms rest : List Member) (m m' : Member) (specs : List Specifier) (ds : List Declarator) (s t : Specifier) (waiting : Option (List Param)) →
     way ≡ rest ++ m ∷ [] → (out-Member m).specs ≡ specs ++ s ∷ [] → (out-Member m).declarators ≡ ds → ms ≡ rest ++ m' ∷ [] → (out-Member m').specs ≡ specs → (out-Member m').declarators ≡ ds →
@@ -172,23 +172,23 @@ pub back_past : (way ms rest : List Member) (m m' : Member) (specs : List Specif
     Goes (record { here = None; way = Some way; coming = None; waiting = waiting }) (step.Next (record { here = Some ms; way = None; coming = None; waiting = waiting }) (leaf.Specifier t))
 back_past way ms rest m m' specs ds s t waiting q p d q' p' d' same bare =
     let before = heavy_member way rest m specs s q p in
-      let behind = light_member ms rest m' specs q' p' in
-      let a = ap (λ v. total (map declarator_weight v)) d in
-      let b = ap (λ v. total (map declarator_weight v)) d' in
-      let some = weight-some s in lighter _ _ _ (omega (arith, before, behind, a, b, some)) (
-        λ n thin.
-      let last = each_last (ThinMember n) way rest m q thin.0.1 in
-      let deep = thin_bare n s bare (each_last _ _ specs s p (member_specs n m last)) in (
+    let behind = light_member ms rest m' specs q' p' in
+    let a = ap (λ v. total (map declarator_weight v)) d in
+    let b = ap (λ v. total (map declarator_weight v)) d' in
+    let some = weight-some s in lighter _ _ _ (omega (arith, before, behind, a, b, some)) (
+    λ n thin.
+    let last = each_last (ThinMember n) way rest m q thin.0.1 in
+    let deep = thin_bare n s bare (each_last _ _ specs s p (member_specs n m last)) in (
+      (
         (
-          (
-            each_push (ThinMember n) ms rest m' q' (each_rest (ThinMember n) way rest m q thin.0.1)
-                (make_member n m' specs ds p' d' (each_rest _ _ specs s p (member_specs n m last)) (rw (sym d) (member_declarators n m last))),
-            tt,
-          ),
-          thin.1,
+          each_push (ThinMember n) ms rest m' q' (each_rest (ThinMember n) way rest m q thin.0.1)
+              (make_member n m' specs ds p' d' (each_rest _ _ specs s p (member_specs n m last)) (rw (sym d) (member_declarators n m last))),
+          tt,
         ),
-        rw same deep,
-      ))
+        thin.1,
+      ),
+      rw same deep,
+    ))
 
 -- parameters
 
@@ -206,23 +206,23 @@ pub lets_wait : (ps ps' rest : List Param) (p p' : Param) (specs : List Specifie
     Goes (record { here = here; way = way; coming = Some ps; waiting = waiting }) (step.Next (record { here = here; way = way; coming = coming; waiting = Some ps' }) gone)
 lets_wait ps ps' rest p p' specs d d' here way coming waiting gone q a b q' a' b' kept parts =
     let before = weight_of_params ps rest p specs d q a b in
-      let behind = weight_of_params ps' rest p' specs d' q' a' b' in
-      let w = ap suffix_weight kept ∙ kept_weight waiting in
-      let less = parts.lighter in nearer _ _ _ (omega (arith, before, behind, w, less)) (omega (arith, before, less)) (
-        λ n thin.
-      let last = each_last (ThinParam n) ps rest p q thin.1.0 in
-      let hang = parts.thin n (subst (λ (v : Declarator). ThinSuffix n v.suffix) b (param_suffix n p last)) in
-      let some = param_some n p last in (
+    let behind = weight_of_params ps' rest p' specs d' q' a' b' in
+    let w = ap suffix_weight kept ∙ kept_weight waiting in
+    let less = parts.lighter in nearer _ _ _ (omega (arith, before, behind, w, less)) (omega (arith, before, less)) (
+    λ n thin.
+    let last = each_last (ThinParam n) ps rest p q thin.1.0 in
+    let hang = parts.thin n (subst (λ (v : Declarator). ThinSuffix n v.suffix) b (param_suffix n p last)) in
+    let some = param_some n p last in (
+      (
+        thin.0,
         (
-          thin.0,
-          (
-            hang.0,
-            each_push (ThinParam n) ps' rest p' q' (each_rest (ThinParam n) ps rest p q thin.1.0)
-                (make_param n p' specs d' a' b' some (rw (sym a) (param_specs n p last)) (rw kept (thin_kept n waiting some thin.1.1))),
-          ),
+          hang.0,
+          each_push (ThinParam n) ps' rest p' q' (each_rest (ThinParam n) ps rest p q thin.1.0)
+              (make_param n p' specs d' a' b' some (rw (sym a) (param_specs n p last)) (rw kept (thin_kept n waiting some thin.1.1))),
         ),
-        hang.1,
-      ))
+      ),
+      hang.1,
+    ))
 
 pub past_param_specifier : (ps ps' rest : List Param) (p p' : Param) (all specs : List Specifier) (d : Declarator) (s t : Specifier) →
     ps ≡ rest ++ p ∷ [] → (out-Param p).specs ≡ all → all ≡ specs ++ s ∷ [] → (out-Param p).declarator ≡ d → ps' ≡ rest ++ p' ∷ [] → (out-Param p').specs ≡ specs → (out-Param p').declarator ≡ d →
@@ -230,22 +230,22 @@ pub past_param_specifier : (ps ps' rest : List Param) (p p' : Param) (all specs 
     Goes (record { here = None; way = None; coming = None; waiting = Some ps }) (step.Next (record { here = None; way = None; coming = None; waiting = Some ps' }) (leaf.Specifier t))
 past_param_specifier ps ps' rest p p' all specs d s t q a r b q' a' b' same bare =
     let before = weight_of_params ps rest p all d q a b in
-      let behind = weight_of_params ps' rest p' specs d q' a' b' in
-      let w = ap (λ v. total (map weight v)) r ∙ total_push weight specs s in
-      let some = weight-some s in lighter _ _ _ (omega (arith, before, behind, w, some)) (
-        λ n thin.
-      let last = each_last (ThinParam n) ps rest p q thin.1.1 in
-      let deep = thin_bare n s bare (each_last _ _ specs s (a ∙ r) (param_specs n p last)) in (
+    let behind = weight_of_params ps' rest p' specs d q' a' b' in
+    let w = ap (λ v. total (map weight v)) r ∙ total_push weight specs s in
+    let some = weight-some s in lighter _ _ _ (omega (arith, before, behind, w, some)) (
+    λ n thin.
+    let last = each_last (ThinParam n) ps rest p q thin.1.1 in
+    let deep = thin_bare n s bare (each_last _ _ specs s (a ∙ r) (param_specs n p last)) in (
+      (
+        thin.0,
         (
-          thin.0,
-          (
-            tt,
-            each_push (ThinParam n) ps' rest p' q' (each_rest (ThinParam n) ps rest p q thin.1.1)
-                (make_param n p' specs d a' b' (param_some n p last) (each_rest _ _ specs s (a ∙ r) (param_specs n p last)) (subst (λ (v : Declarator). ThinSuffix n v.suffix) b (param_suffix n p last))),
-          ),
+          tt,
+          each_push (ThinParam n) ps' rest p' q' (each_rest (ThinParam n) ps rest p q thin.1.1)
+              (make_param n p' specs d a' b' (param_some n p last) (each_rest _ _ specs s (a ∙ r) (param_specs n p last)) (subst (λ (v : Declarator). ThinSuffix n v.suffix) b (param_suffix n p last))),
         ),
-        rw same deep,
-      ))
+      ),
+      rw same deep,
+    ))
 
 pub into_param_body : (ps ps' rest : List Param) (p p' : Param) (all specs : List Specifier) (d : Declarator) (s : Specifier) (tag : Option (List ℕ)) (body : List Member) →
     ps ≡ rest ++ p ∷ [] → (out-Param p).specs ≡ all → all ≡ specs ++ s ∷ [] → (out-Param p).declarator ≡ d → ps' ≡ rest ++ p' ∷ [] → (out-Param p').specs ≡ specs → (out-Param p').declarator ≡ d →
@@ -253,22 +253,22 @@ pub into_param_body : (ps ps' rest : List Param) (p p' : Param) (all specs : Lis
     Goes (record { here = None; way = None; coming = None; waiting = Some ps }) (step.Next (record { here = Some body; way = None; coming = None; waiting = Some ps' }) leaf.Nothing)
 into_param_body ps ps' rest p p' all specs d s tag body q a r b q' a' b' is =
     let before = weight_of_params ps rest p all d q a b in
-      let behind = weight_of_params ps' rest p' specs d q' a' b' in
-      let w = ap (λ v. total (map weight v)) r ∙ total_push weight specs s in
-      let inner = ap weight is ∙ weight-body tag (Some body) in lighter _ _ _ (omega (arith, before, behind, w, inner)) (
-        λ n thin.
-      let last = each_last (ThinParam n) ps rest p q thin.1.1 in
-      let both = thin_body n s tag body is (each_last _ _ specs s (a ∙ r) (param_specs n p last)) in (
+    let behind = weight_of_params ps' rest p' specs d q' a' b' in
+    let w = ap (λ v. total (map weight v)) r ∙ total_push weight specs s in
+    let inner = ap weight is ∙ weight-body tag (Some body) in lighter _ _ _ (omega (arith, before, behind, w, inner)) (
+    λ n thin.
+    let last = each_last (ThinParam n) ps rest p q thin.1.1 in
+    let both = thin_body n s tag body is (each_last _ _ specs s (a ∙ r) (param_specs n p last)) in (
+      (
+        (both.1, tt),
         (
-          (both.1, tt),
-          (
-            tt,
-            each_push (ThinParam n) ps' rest p' q' (each_rest (ThinParam n) ps rest p q thin.1.1)
-                (make_param n p' specs d a' b' (param_some n p last) (each_rest _ _ specs s (a ∙ r) (param_specs n p last)) (subst (λ (v : Declarator). ThinSuffix n v.suffix) b (param_suffix n p last))),
-          ),
+          tt,
+          each_push (ThinParam n) ps' rest p' q' (each_rest (ThinParam n) ps rest p q thin.1.1)
+              (make_param n p' specs d a' b' (param_some n p last) (each_rest _ _ specs s (a ∙ r) (param_specs n p last)) (subst (λ (v : Declarator). ThinSuffix n v.suffix) b (param_suffix n p last))),
         ),
-        tt,
-      ))
+      ),
+      tt,
+    ))
 
 pub past_param : (ps rest before_it : List Param) (p : Param) (specs : List Specifier) (d : Declarator) (next : Option (List Param)) (part : Leaf) (gone : Suffix) →
     ps ≡ rest ++ p ∷ [] → before_it ≡ rest → (out-Param p).specs ≡ specs → specs ≡ [] → (out-Param p).declarator ≡ d → Parts d.suffix (next, part) →
@@ -276,14 +276,14 @@ pub past_param : (ps rest before_it : List Param) (p : Param) (specs : List Spec
     Goes (record { here = None; way = None; coming = None; waiting = Some ps }) (step.Next (record { here = None; way = None; coming = Some before_it; waiting = next }) (leaf.Param specs gone))
 past_param ps rest before_it p specs d next part gone q same a none b parts fits =
     let before = weight_of_params ps rest p specs d q a b in
-      let w = ap (λ v. total (map param_weight v)) same in
-      let less = parts.lighter in lighter _ _ _ (omega (arith, before, w, less)) (
-        λ n thin.
-      let last = each_last (ThinParam n) ps rest p q thin.1.1 in
-      let hang = parts.thin n (subst (λ (v : Declarator). ThinSuffix n v.suffix) b (param_suffix n p last)) in (
-        (thin.0, (subst (Each (ThinParam n)) (sym same) (each_rest (ThinParam n) ps rest p q thin.1.1), hang.0)),
-        (none, fits n (param_some n p last) hang.1),
-      ))
+    let w = ap (λ v. total (map param_weight v)) same in
+    let less = parts.lighter in lighter _ _ _ (omega (arith, before, w, less)) (
+    λ n thin.
+    let last = each_last (ThinParam n) ps rest p q thin.1.1 in
+    let hang = parts.thin n (subst (λ (v : Declarator). ThinSuffix n v.suffix) b (param_suffix n p last)) in (
+      (thin.0, (subst (Each (ThinParam n)) (sym same) (each_rest (ThinParam n) ps rest p q thin.1.1), hang.0)),
+      (none, fits n (param_some n p last) hang.1),
+    ))
 
 -- suffixes
 

@@ -1,11 +1,11 @@
 -- The weights of nested parts, by what they hold.
-use Rattle.std.proofs.Common.{◌≡◌, ℕ, suc, ◌+◌, ◌≤◌, List, [], ◌∷◌, ◌++◌, map, ap, sym, ◌∙◌, subst, arith, refl}
+use Rattle.std.proofs.Common.{◌≡◌, ℕ, suc, ◌+◌, ◌≤◌, List, [], ◌∷◌, ◌++◌, map, ap, sym, ◌∙◌, subst, arith}
 use Rattle.std.specs.Prelude.{Option, Some, None, Bool}
 use Rattle.po_tree.specs.declared.expression.Exp.{Exp}
 use Rattle.po_tree.specs.declared.expression.Exp.TheOpen.{Specifier-F, Suffix-F}
 use Rattle.po_tree.specs.declared.expression.Specifier.{Specifier, fold-roll-Specifier, fold_out-Specifier}
 use Rattle.po_tree.specs.declared.expression.Specifier.TheVariants as sp
-use Rattle.po_tree.specs.declared.expression.Suffix.{Suffix, fold-roll-Suffix, fold_out-Suffix}
+use Rattle.po_tree.specs.declared.expression.Suffix.{fold-roll-Suffix}
 use Rattle.po_tree.specs.declared.expression.Suffix.TheVariants as su
 use Rattle.po_tree.specs.declared.expression.Declarator.{Declarator, fold-roll-Declarator}
 use Rattle.po_tree.specs.declared.expression.Member.{Member, out-Member, fold_out-Member}

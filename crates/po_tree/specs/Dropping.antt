@@ -1,6 +1,5 @@
 -- How a loop drops nested struct bodies and parameter lists: what its steps do, and why it ends.
 use Rattle.std.specs.Prelude.{ℕ, suc, ◌+◌, ◌*◌, ◌<◌, ◌≤◌, ◌≡◌, List, [], ◌∷◌, ◌++◌, map, Contains, Option, Some, None, Bool, false, vec_len, vec_capacity}
-use denote.Param.Weighed.{most}
 use Rattle.po_tree.specs.declared.expression.Exp.TheOpen.{Specifier-F, Suffix-F, Declarator-F, Member-F, Param-F}
 use Rattle.po_tree.specs.declared.expression.Specifier.{Specifier, size-Specifier, fold-Specifier}
 use Rattle.po_tree.specs.declared.expression.Specifier.TheVariants as sp

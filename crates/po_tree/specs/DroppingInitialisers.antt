@@ -6,7 +6,6 @@ use Rattle.po_tree.specs.declared.declaration.Init.TheVariants as init
 use Rattle.po_tree.specs.declared.declaration.InitParts.{InitParts}
 use Rattle.po_tree.specs.declared.declaration.InitParts.TheVariants as parts
 use Rattle.po_tree.specs.declared.dropping_initialisers.Way.{Way}
-use Rattle.po_tree.specs.declared.dropping_initialisers.Leaf.{Leaf}
 use Rattle.po_tree.specs.declared.dropping_initialisers.Leaf.TheVariants as leaf
 use Rattle.po_tree.specs.declared.dropping_initialisers.Step.{Step}
 use Rattle.po_tree.specs.declared.dropping_initialisers.Step.TheVariants as step

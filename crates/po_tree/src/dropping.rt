@@ -82,7 +82,11 @@ pub(crate) fn drop_specifiers(specs: List<Specifier>) {
 /// Drops a declarator.
 #[cycle(dropping)]
 pub(crate) fn drop_declarator(declarator: Declarator) {
-    let Declarator { stars: _, name: _, suffix } = declarator;
+    let Declarator {
+        stars: _,
+        name: _,
+        suffix,
+    } = declarator;
     match suffix {
         Suffix::Plain => {}
         Suffix::Arrays(sizes) => drop(sizes),
@@ -188,18 +192,42 @@ fn go_on(here: List<Member>, way: Option<List<Member>>, waiting: Option<List<Par
     ensures { Goes (record { here = Some here; way = way; coming = None; waiting = waiting }) result }
 {
     match take_apart(here) {
-        Split::Nothing(empty) => Step::Next(Left { here: None, way, coming: None, waiting }, Leaf::Members(empty)),
+        Split::Nothing(empty) => Step::Next(
+            Left {
+                here: None,
+                way,
+                coming: None,
+                waiting,
+            },
+            Leaf::Members(empty),
+        ),
         Split::Bare(rest, specs, declarators) => go_out(rest, specs, declarators, way, waiting),
         Split::Last(rest, specs, declarators, spec) => match body_of(spec) {
             Found::Body(tag, body) => {
                 let specs = put_back(specs, Specifier::Struct(tag, way));
                 let way = put_back(rest, Member { specs, declarators });
-                Step::Next(Left { here: Some(body), way: Some(way), coming: None, waiting }, Leaf::Nothing)
+                Step::Next(
+                    Left {
+                        here: Some(body),
+                        way: Some(way),
+                        coming: None,
+                        waiting,
+                    },
+                    Leaf::Nothing,
+                )
             }
             Found::Other(spec) => {
                 let specs = List::from_vec(specs);
                 let here = put_back(rest, Member { specs, declarators });
-                Step::Next(Left { here: Some(here), way, coming: None, waiting }, Leaf::Specifier(spec))
+                Step::Next(
+                    Left {
+                        here: Some(here),
+                        way,
+                        coming: None,
+                        waiting,
+                    },
+                    Leaf::Specifier(spec),
+                )
             }
         },
     }
@@ -220,14 +248,34 @@ fn go_out(
     match declarators.pop() {
         None => {
             let leaf = Leaf::Member(specs, List::from_vec(declarators));
-            Step::Next(Left { here: Some(List::from_vec(rest)), way, coming: None, waiting }, leaf)
+            Step::Next(
+                Left {
+                    here: Some(List::from_vec(rest)),
+                    way,
+                    coming: None,
+                    waiting,
+                },
+                leaf,
+            )
         }
         Some(declarator) => {
-            let Declarator { stars: _, name: _, suffix } = declarator;
+            let Declarator {
+                stars: _,
+                name: _,
+                suffix,
+            } = declarator;
             let (coming, leaf) = parts_of(suffix);
             let declarators = List::from_vec(declarators);
             let here = put_back(rest, Member { specs, declarators });
-            Step::Next(Left { here: Some(here), way, coming, waiting }, leaf)
+            Step::Next(
+                Left {
+                    here: Some(here),
+                    way,
+                    coming,
+                    waiting,
+                },
+                leaf,
+            )
         }
     }
 }
@@ -237,17 +285,41 @@ fn go_back(way: List<Member>, waiting: Option<List<Param>>) -> Step
     ensures { Goes (record { here = None; way = Some way; coming = None; waiting = waiting }) result }
 {
     match take_apart(way) {
-        Split::Nothing(empty) => Step::Next(Left { here: None, way: None, coming: None, waiting }, Leaf::Members(empty)),
+        Split::Nothing(empty) => Step::Next(
+            Left {
+                here: None,
+                way: None,
+                coming: None,
+                waiting,
+            },
+            Leaf::Members(empty),
+        ),
         Split::Bare(rest, specs, declarators) => go_out(rest, specs, declarators, None, waiting),
         Split::Last(rest, specs, declarators, spec) => {
             let specs = List::from_vec(specs);
             let here = put_back(rest, Member { specs, declarators });
             match body_of(spec) {
                 Found::Body(_tag, way) => {
-                    Step::Next(Left { here: Some(here), way: Some(way), coming: None, waiting }, Leaf::Nothing)
+                    Step::Next(
+                        Left {
+                            here: Some(here),
+                            way: Some(way),
+                            coming: None,
+                            waiting,
+                        },
+                        Leaf::Nothing,
+                    )
                 }
                 Found::Other(spec) => {
-                    Step::Next(Left { here: Some(here), way: None, coming: None, waiting }, Leaf::Specifier(spec))
+                    Step::Next(
+                        Left {
+                            here: Some(here),
+                            way: None,
+                            coming: None,
+                            waiting,
+                        },
+                        Leaf::Specifier(spec),
+                    )
                 }
             }
         }
@@ -259,7 +331,15 @@ fn go_into(waiting: List<Param>) -> Step
     ensures { Goes (record { here = None; way = None; coming = None; waiting = Some waiting }) result }
 {
     match take_param(waiting) {
-        SplitParams::Nothing(empty) => Step::Next(Left { here: None, way: None, coming: None, waiting: None }, Leaf::Params(empty)),
+        SplitParams::Nothing(empty) => Step::Next(
+            Left {
+                here: None,
+                way: None,
+                coming: None,
+                waiting: None,
+            },
+            Leaf::Params(empty),
+        ),
         SplitParams::Last(rest, specs, declarator) => {
             let mut specs = specs.into_vec();
             match specs.pop() {
@@ -268,8 +348,24 @@ fn go_into(waiting: List<Param>) -> Step
                     let specs = List::from_vec(specs);
                     let waiting = put_back(rest, Param { specs, declarator });
                     match body_of(spec) {
-                        Found::Body(_tag, body) => Step::Next(Left { here: Some(body), way: None, coming: None, waiting: Some(waiting) }, Leaf::Nothing),
-                        Found::Other(spec) => Step::Next(Left { here: None, way: None, coming: None, waiting: Some(waiting) }, Leaf::Specifier(spec)),
+                        Found::Body(_tag, body) => Step::Next(
+                            Left {
+                                here: Some(body),
+                                way: None,
+                                coming: None,
+                                waiting: Some(waiting),
+                            },
+                            Leaf::Nothing,
+                        ),
+                        Found::Other(spec) => Step::Next(
+                            Left {
+                                here: None,
+                                way: None,
+                                coming: None,
+                                waiting: Some(waiting),
+                            },
+                            Leaf::Specifier(spec),
+                        ),
                     }
                 }
             }
@@ -282,27 +378,84 @@ fn go_past(rest: Vec<Param>, specs: List<Specifier>, declarator: Declarator) -> 
     ensures { (p : Parameter) → (out-Param p).specs ≡ specs → specs ≡ [] → (out-Param p).declarator ≡ declarator → Goes (record { here = None; way = None; coming = None; waiting = Some (rest.items ++ p ∷ []) }) result }
 {
     let coming = Some(List::from_vec(rest));
-    let Declarator { stars: _, name: _, suffix } = declarator;
+    let Declarator {
+        stars: _,
+        name: _,
+        suffix,
+    } = declarator;
     match suffix {
-        Suffix::Plain => Step::Next(Left { here: None, way: None, coming, waiting: None }, Leaf::Param(specs, Suffix::Plain)),
-        Suffix::Arrays(sizes) => Step::Next(Left { here: None, way: None, coming, waiting: None }, Leaf::Param(specs, Suffix::Arrays(sizes))),
-        Suffix::Params(waiting, _) => Step::Next(Left { here: None, way: None, coming, waiting: Some(waiting) }, Leaf::Param(specs, Suffix::Plain)),
+        Suffix::Plain => Step::Next(
+            Left {
+                here: None,
+                way: None,
+                coming,
+                waiting: None,
+            },
+            Leaf::Param(specs, Suffix::Plain),
+        ),
+        Suffix::Arrays(sizes) => Step::Next(
+            Left {
+                here: None,
+                way: None,
+                coming,
+                waiting: None,
+            },
+            Leaf::Param(specs, Suffix::Arrays(sizes)),
+        ),
+        Suffix::Params(waiting, _) => Step::Next(
+            Left {
+                here: None,
+                way: None,
+                coming,
+                waiting: Some(waiting),
+            },
+            Leaf::Param(specs, Suffix::Plain),
+        ),
     }
 }
 
 /// Lets parameters wait before others, which are kept in place of the suffix of the last parameter. The parameters in that suffix come next.
-fn let_wait(here: Option<List<Member>>, way: Option<List<Member>>, coming: List<Param>, waiting: Option<List<Param>>) -> Step
+fn let_wait(
+    here: Option<List<Member>>,
+    way: Option<List<Member>>,
+    coming: List<Param>,
+    waiting: Option<List<Param>>,
+) -> Step
     ensures { Goes (record { here = here; way = way; coming = Some coming; waiting = waiting }) result }
 {
     match take_param(coming) {
-        SplitParams::Nothing(empty) => Step::Next(Left { here, way, coming: None, waiting }, Leaf::Params(empty)),
+        SplitParams::Nothing(empty) => Step::Next(
+            Left {
+                here,
+                way,
+                coming: None,
+                waiting,
+            },
+            Leaf::Params(empty),
+        ),
         SplitParams::Last(rest, specs, declarator) => {
-            let Declarator { stars, name, suffix } = declarator;
+            let Declarator {
+                stars,
+                name,
+                suffix,
+            } = declarator;
             let (coming, leaf) = parts_of(suffix);
             let suffix = kept_in_suffix(waiting);
-            let declarator = Declarator { stars, name, suffix };
+            let declarator = Declarator {
+                stars,
+                name,
+                suffix,
+            };
             let waiting = Some(put_back(rest, Param { specs, declarator }));
-            Step::Next(Left { here, way, coming, waiting }, leaf)
+            Step::Next(
+                Left {
+                    here,
+                    way,
+                    coming,
+                    waiting,
+                },
+                leaf,
+            )
         }
     }
 }

@@ -108,7 +108,10 @@ fn go_back(way: Way) -> Step
         Some(init) => match init.into_parts() {
             InitParts::Value(x) => Step::Next(Some(List::from_vec(inits)), None, Leaf::Value(x)),
             InitParts::Braces(further, linked) => {
-                let way = Way { inits: further, linked };
+                let way = Way {
+                    inits: further,
+                    linked,
+                };
                 Step::Next(Some(List::from_vec(inits)), Some(way), Leaf::Nothing)
             }
         },

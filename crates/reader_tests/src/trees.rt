@@ -46,16 +46,9 @@ fn declarator(alloc: Global, suffix: Suffix) -> Declarator {
 }
 
 /// The suffix `(TYPE SUFFIX)`.
-fn parameters(
-    alloc: Global,
-    specs: List<Specifier>,
-    suffix: Suffix,
-) -> Result<Suffix, Memory> {
+fn parameters(alloc: Global, specs: List<Specifier>, suffix: Suffix) -> Result<Suffix, Memory> {
     let declarator = declarator(alloc, suffix);
-    Ok(Suffix::Params(
-        alone(alloc, Param { specs, declarator })?,
-        false,
-    ))
+    Ok(Suffix::Params(alone(alloc, Param { specs, declarator })?, false))
 }
 
 /// `int (int (int ..))`, so deep.

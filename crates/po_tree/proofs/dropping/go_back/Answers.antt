@@ -1,4 +1,4 @@
-use Rattle.std.proofs.Common.{ap, sym, ◌∙◌, subst, refl}
+use Rattle.std.proofs.Common.{ap, sym, ◌∙◌, subst}
 use Rattle.std.specs.Prelude.{Some, None}
 use Rattle.po_tree.specs.declared.expression.Member.{out-roll-Member}
 use Rattle.po_tree.specs.Dropping.{Passes}

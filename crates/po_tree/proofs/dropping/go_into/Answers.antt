@@ -1,4 +1,4 @@
-use Rattle.std.proofs.Common.{◌≡◌, [], ◌∷◌, ◌++◌, ap, sym, ◌∙◌, subst, refl, rules}
+use Rattle.std.proofs.Common.{◌≡◌, [], ◌∷◌, ◌++◌, ap, sym, ◌∙◌, subst, rules}
 use Rattle.std.specs.Prelude.{Some, None}
 use Rattle.po_tree.specs.declared.expression.Param.{out-roll-Param}
 use Rattle.po_tree.specs.Dropping.{Goes}

@@ -1,5 +1,4 @@
-use Rattle.std.proofs.Common.{◌≡◌, [], ◌∷◌, ◌++◌, ap, sym, ◌∙◌, subst, refl, rules}
-use Rattle.std.specs.Prelude.{Some, None}
+use Rattle.std.proofs.Common.{◌≡◌, [], ◌∷◌, ◌++◌, ap, refl, rules}
 use Rattle.po_tree.specs.declared.expression.Member.{out-roll-Member}
 use Rattle.po_tree.proofs.Steps.{past_member, past_declarator}
 use Rattle.po_tree.proofs.dropping.go_out.Goals as goal

@@ -1,5 +1,4 @@
-use Rattle.std.proofs.Common.{ap, sym, ◌∙◌, subst, refl}
-use Rattle.std.specs.Prelude.{Some, None}
+use Rattle.std.proofs.Common.{refl}
 use Rattle.po_tree.specs.declared.expression.Suffix.TheVariants as su
 use Rattle.po_tree.proofs.Steps.{past_param, parts_plain, parts_arrays, parts_list, fits_plain, fits_itself}
 use Rattle.po_tree.proofs.dropping.go_past.Goals as goal

@@ -1,5 +1,4 @@
-use Rattle.std.proofs.Common.{◌≡◌, [], ◌∷◌, ◌++◌, ap, sym, ◌∙◌, subst, refl, rules}
-use Rattle.std.specs.Prelude.{Some, None}
+use Rattle.std.proofs.Common.{ap}
 use Rattle.po_tree.specs.declared.expression.Param.{out-roll-Param}
 use Rattle.po_tree.proofs.Steps.{lets_wait}
 use Rattle.po_tree.proofs.dropping.let_wait.Goals as goal

@@ -1,4 +1,4 @@
-use Rattle.std.proofs.Common.{◌≡◌, [], ◌∷◌, ◌++◌, ap, sym, ◌∙◌, subst, refl, rules}
+use Rattle.std.proofs.Common.{sym, rules}
 use Rattle.po_tree.proofs.dropping.take_param.Goals as goal
 
 pub returns-in-Some : goal.returns-in-Some

@@ -1,5 +1,4 @@
-use Rattle.std.proofs.Common.{◌≡◌, [], ◌∷◌, ◌++◌, ap, sym, ◌∙◌, subst, refl, rules}
-use Rattle.std.specs.Prelude.{Some, None}
+use Rattle.std.proofs.Common.{refl}
 use Rattle.po_tree.proofs.Steps.{goes_along}
 use Rattle.po_tree.proofs.dropping.take_step.Goals as goal
 

@@ -1,4 +1,4 @@
-use Rattle.std.proofs.Common.{◌≡◌, [], ◌∷◌, ◌++◌, ap, arith, rules, refl}
+use Rattle.std.proofs.Common.{◌≡◌, [], ◌∷◌, ◌++◌, ap, arith, rules}
 use Rattle.std.specs.Prelude.{Some, None}
 use Rattle.po_tree.specs.DroppingInitialisers.{total_weight}
 use Rattle.po_tree.proofs.InitSteps.{with_value, with_braces, lighter}

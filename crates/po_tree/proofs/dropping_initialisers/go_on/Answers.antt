@@ -1,5 +1,5 @@
-use Rattle.std.proofs.Common.{◌≡◌, [], ◌∷◌, ◌++◌, ap, arith, rules, refl}
-use Rattle.std.specs.Prelude.{Some, None}
+use Rattle.std.proofs.Common.{◌≡◌, [], ◌∷◌, ◌++◌, ap, arith, rules}
+use Rattle.std.specs.Prelude.{Some}
 use Rattle.po_tree.specs.DroppingInitialisers.{total_weight}
 use Rattle.po_tree.proofs.InitSteps.{with_value, with_braces, lighter, nearer}
 use Rattle.po_tree.proofs.dropping_initialisers.go_on.Goals as goal

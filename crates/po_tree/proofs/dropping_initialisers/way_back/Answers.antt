@@ -1,6 +1,4 @@
-use Rattle.std.proofs.Common.{◌≡◌, [], ◌∷◌, ◌++◌, ap, arith, rules, refl}
-use Rattle.std.specs.Prelude.{Some, None}
-use Rattle.po_tree.specs.DroppingInitialisers.{total_weight}
+use Rattle.std.proofs.Common.{refl}
 use Rattle.po_tree.proofs.InitSteps.{with_braces}
 use Rattle.po_tree.proofs.dropping_initialisers.way_back.Goals as goal
 
