@@ -1,11 +1,9 @@
 -- An instruction that is carried out is a step of its kind.
-use Rattle.std.specs.Prelude.{ℕ, ◌≡◌, ◌⊎◌, Result, Ok, Err, IfOk, OnOk, List, [], ◌∷◌, ◌++◌, Option, Some, None, All, length, reverse, slice_get}
-use Rattle.std.proofs.Common.{refl, sym, ap, ◌∙◌, subst, inl, inr}
+use Rattle.std.specs.Prelude.{ℕ, ◌≡◌, ◌⊎◌, Result, Ok, Err, IfOk, OnOk, List, [], Option, Some, slice_get}
+use Rattle.std.proofs.Common.{refl, sym, ap, subst, inl, inr}
 use Rattle.po_base.specs.declared.numbers.FunNo.{FunNo}
-use Rattle.po_base.specs.declared.numbers.LibNo.{LibNo}
 use Rattle.po_base.specs.declared.numbers.RegNo.{RegNo}
 use Rattle.po_base.specs.declared.operand.Opnd.{Opnd}
-use Rattle.po_ir.specs.declared.instr.Callee.{Callee}
 use Rattle.po_ir.specs.declared.instr.Callee.TheVariants.{Fun, Extern as Undefined}
 use Rattle.po_ir.specs.declared.instr.Instr.{Instr}
 use Rattle.po_ir.specs.declared.instr.Instr.TheVariants.{Const, Copy, Bin, Un, Conv, AddrSlot, AddrGlobal, AddrStr, PtrAdd, PtrDiff, Load, Store, CopyBytes, Fill, Enter, Leave, Call, Lib, If, Jump, Return, Never}
@@ -15,23 +13,18 @@ use Rattle.po_ir.specs.Whole.{Signature, parameter_types}
 use Rattle.po_gen.specs.Asks.{Required}
 use Rattle.po_memory.specs.declared.block.Block.{Block}
 use Rattle.po_memory.specs.declared.frame.Frame.{Frame}
-use Rattle.po_memory.specs.declared.value.Value.{Value}
 use Rattle.po_meaning.specs.Local.{Local}
 use Rattle.po_meaning.specs.Library.{Library}
 use Rattle.po_meaning.specs.Operands.{block_held}
-use Rattle.po_meaning.specs.States.{State, StandsAt}
+use Rattle.po_meaning.specs.States.{State}
 use Rattle.po_meaning.specs.Steps.{Enters, IsLast, Moves, Returns, StepOf}
 use Rattle.po_meaning.specs.Following.{CallsLibrary, Follows, StatesFollow}
 use Rattle.po_meaning.specs.Staying.{StepsStay}
-use Rattle.po_meaning.specs.Belongs.{Belongs, SlotsBelong, Wait}
-use Rattle.po_meaning.specs.Runs.{IsEnd}
 use Rattle.po_meaning.proofs.Slots.{entered_block}
 use Rattle.std.proofs.lemmas.Option.{slice_get_within}
-use Rattle.po_operate.specs.Finding as finding
 use Rattle.po_step.specs.Passing.{CanPass, CanReturn, HaveBlocks}
-use Rattle.po_step.specs.Stepping.{Carries, IsReadyAt, Moved, MovedOrEnded, ReturnsOrEnds, StaysInFrame, state_of}
-use Rattle.po_step.specs.declared.step.Step.{Step}
-use Rattle.po_step.specs.declared.step.Step.TheVariants.{Next, Ended, Violated}
+use Rattle.po_step.specs.Stepping.{Carries, IsReadyAt, Moved, StaysInFrame, state_of}
+use Rattle.po_step.specs.declared.step.Step.TheVariants.{Next}
 
 -- ---- instructions that stay in their frame
 

@@ -1,10 +1,9 @@
 -- What a report lists at the calls of a whole project can be put in there.
-use Rattle.std.specs.Prelude.{ℕ, suc, ◌+◌, ◌<◌, ◌≤◌, ◌≡◌, ◌^◌, false, true, List, [], ◌∷◌, All, ℤ, pos, neg_ℤ, ◌+ℤ◌, ◌≤ℤ◌, Option, Some, None, MatchOption, length, map, take, slice_get}
-use Rattle.std.proofs.Common.{refl, sym, ap, ◌∙◌, subst, arith, inl, inr}
+use Rattle.std.specs.Prelude.{ℕ, suc, ◌<◌, ◌≤◌, ◌≡◌, false, List, [], ◌∷◌, All, ℤ, Option, Some, None, MatchOption, length, map, take, slice_get}
+use Rattle.std.proofs.Common.{refl, sym, ap, ◌∙◌, subst, arith}
 use Rattle.std.proofs.lemmas.Int.{ints}
 use Rattle.std.proofs.lemmas.List.{length-take-le, length-map}
 use Rattle.std.proofs.lemmas.List.Elements.{All-nil, All-cons, All-map, All-take}
-use Rattle.po_base.specs.declared.numbers.NodeNo.{NodeNo}
 use Rattle.po_base.specs.declared.operand.Opnd.{Opnd}
 use Rattle.po_base.specs.declared.operand.Opnd.TheVariants as operand
 use Rattle.po_arith.specs.declared.int_type.IntType.{IntType}
@@ -13,7 +12,6 @@ use Rattle.po_arith.proofs.Sizes.{small}
 use Rattle.po_ir.specs.declared.graph.Graph.{Graph}
 use Rattle.po_ir.specs.declared.graph.Node.{Node}
 use Rattle.po_ir.specs.declared.graph.Reg.{Reg as Register}
-use Rattle.po_ir.specs.declared.instr.Callee.{Callee}
 use Rattle.po_ir.specs.declared.instr.Callee.TheVariants.{Fun, Extern as Undefined}
 use Rattle.po_ir.specs.declared.instr.Instr.{Instr}
 use Rattle.po_ir.specs.declared.instr.Instr.TheVariants.{Const, Copy, Bin, Un, Conv, AddrSlot, AddrGlobal, AddrStr, PtrAdd, PtrDiff, Load, Store, CopyBytes, Fill, Enter, Leave, Call, Lib, If, Jump, Return, Never}
@@ -22,7 +20,7 @@ use Rattle.po_ir.specs.declared.instr.Ty.TheVariants.{Int, Ptr}
 use Rattle.po_ir.specs.declared.project.Function.{Function}
 use Rattle.po_ir.specs.declared.project.Project.{Project}
 use Rattle.po_ir.specs.IntTypes.{AreTypesOfTarget, HasTypesOfTarget, IsTypeOfTarget}
-use Rattle.po_ir.specs.Types.{Lies, IsValue}
+use Rattle.po_ir.specs.Types.{Lies}
 use Rattle.po_ir.specs.Whole.{Signature, CallFits, FunctionFits, IsUnread, IsWhole, Passes, parameter_types, type_of}
 use Rattle.po_core.specs.declared.obl.Cause.{Cause}
 use Rattle.po_core.specs.declared.obl.Cause.TheVariants.{Primary, Support}
@@ -36,12 +34,12 @@ use Rattle.po_pred.specs.declared.pred.Rule.{Rule}
 use Rattle.po_pred.specs.Finite.{IsOver, IsPlaceFrom, IsPlaceOver}
 use Rattle.po_pred.specs.Subst.{IsCounted, IsCountedOperand, IsOpenTo, IsParameterBelow}
 use Rattle.po_pred.specs.View.{places_of}
-use Rattle.po_meaning.proofs.Places.{at_place, All-head, All-tail}
+use Rattle.po_lists.proofs.Places.{all_at, all_head, all_tail}
 use Rattle.po_step.specs.Supporting.{Takes, TakesAll, TakesAt, TakesCause, TakesIn, CauseFits, SupportFits, SupportFitsAt, SupportFitsIn, SupportsFit}
 
 all_as : {X : Type 0} (P Q : X → Type 0) (xs : List X) → ((x : X) → P x → Q x) → All P xs → All Q xs
 all_as P Q [] each all = All-nil Q
-all_as P Q (x ∷ xs) each all = All-cons Q x xs (each x (All-head P x xs all)) (all_as P Q xs each (All-tail P x xs all))
+all_as P Q (x ∷ xs) each all = All-cons Q x xs (each x (all_head P x xs all)) (all_as P Q xs each (all_tail P x xs all))
 
 pub types_of_whole : (library : List Signature) (p : Project) → IsWhole library p → AreTypesOfTarget p
 types_of_whole library p whole = all_as (FunctionFits library p) (λ (f : Function). HasTypesOfTarget f.graph) p.functions (λ f fits. fits.types) whole.functions
@@ -60,7 +58,7 @@ passed_counted : (g : Graph) (types : List Ty) (args : List Opnd) → All IsType
 passed_counted g [] [] typed lie = All-nil IsCountedOperand
 passed_counted g [] (a ∷ args) typed lie = absurd (cc)
 passed_counted g (t ∷ types) [] typed lie = absurd lie
-passed_counted g (t ∷ types) (a ∷ args) typed lie = All-cons IsCountedOperand a args (counted_operand g t a (All-head IsTypeOfTarget t types typed) lie.0) (passed_counted g types args (All-tail IsTypeOfTarget t types typed) lie.1)
+passed_counted g (t ∷ types) (a ∷ args) typed lie = All-cons IsCountedOperand a args (counted_operand g t a (all_head IsTypeOfTarget t types typed) lie.0) (passed_counted g types args (all_tail IsTypeOfTarget t types typed) lie.1)
 
 passed_count : (g : Graph) (types : List Ty) (args : List Opnd) → Passes g false types args → length types ≡ length args
 passed_count g [] [] lie = refl
@@ -97,14 +95,13 @@ module _ (library : List Signature) (p : Project) (whole : IsWhole library p) wh
       let call = calls over.0 in
       let its = each callee refl in
       let count : length (parameter_types callee) ≡ callee.graph.params = length-map (take callee.graph.params callee.graph.regs) type_of ∙ length-take-le callee.graph.params callee.graph.regs its.parameters.there in
-      let same = passed_count f.graph (parameter_types callee) args call.passes in
-      (
+      let same = passed_count f.graph (parameter_types callee) args call.passes in (
         all_as (IsPlaceOver callee.graph.params) (IsOpenTo (length args)) (places_of q) (λ x. open_to callee.graph.params (length args) x (omega (arith, count, same))) over.1.places,
         passed_counted f.graph (parameter_types callee) args (registers_typed callee.graph.regs callee.graph.params its.types.registers) call.passes,
       )
 
   function_at : (n : ℕ) (f : Function) → slice_get p.functions n ≡ Some f → FunctionFits library p f
-  function_at n f there = at_place (FunctionFits library p) p.functions n f whole.functions there
+  function_at n f there = all_at (FunctionFits library p) p.functions n f whole.functions there
 
   instr_takes : (f : Function) (n : ℕ) (node : Node) (q : Pred) (i : Instr) → FunctionFits library p f → slice_get f.graph.nodes n ≡ Some node → node.instr ≡ i → SupportFits p i q → Takes i q
   instr_takes f n node q (Call to (Fun g) args strings) fits there is over =

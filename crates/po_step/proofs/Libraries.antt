@@ -1,6 +1,6 @@
 -- A call of a library function that is carried out is a step, or ends the run.
-use Rattle.std.specs.Prelude.{◌≡◌, List, [], Option, None, Some, MatchOption, slice_get}
-use Rattle.std.proofs.Common.{refl, sym, ap, ◌∙◌, subst}
+use Rattle.std.specs.Prelude.{◌≡◌, List, [], Option, Some, MatchOption, slice_get}
+use Rattle.std.proofs.Common.{refl, sym, ap, subst}
 use Rattle.po_base.specs.declared.numbers.LibNo.{LibNo}
 use Rattle.po_base.specs.declared.numbers.RegNo.{RegNo}
 use Rattle.po_base.specs.declared.operand.Opnd.{Opnd}
@@ -46,10 +46,10 @@ module _ (pass : LibraryCallsPass) (required : Required) (signatures : List Sign
   can_pass = (passed_to.values, subst (λ (list : List Ty). ArePassed top list args passed_to.values) (sym of_signature) passed_to.passed)
 
   module _ (values : List Value) (passed : ArePassed top types args values) where
-    at_signature : ArePassed top passed_to.signature.params args values
+    pub at_signature : ArePassed top passed_to.signature.params args values
     at_signature = subst (λ (list : List Ty). ArePassed top list args values) of_signature passed
 
-    pub called : IsCalled required signatures p lib values m
+    abbrev pub called : IsCalled required signatures p lib values m
     called = record {
       state = state_of top waiting m;
       belongs = at.belongs;
@@ -62,16 +62,20 @@ module _ (pass : LibraryCallsPass) (required : Required) (signatures : List Sign
       held = each_all (Holds top m) (required lib args strings) (held_asks required signatures p f (Lib to lib args strings) (state_of top waiting m) at);
     }
 
-    module _ (outcomes : Outcomes) (after : List Block) (ending : Ending) (may : outcomes lib values m ending after) (keeps : Keeps p passed_to.signature m ending after) where
+    module _ (outcomes : Outcomes) (after : List Block) (ending : Ending) (may : outcomes lib values m ending after)
+        (keeps : (q : Project) (call : IsCalled required signatures q lib values m) → Keeps q call.signature m ending after) where
+      kept : Keeps p passed_to.signature m ending after
+      kept = keeps p called
+
       ends_as : (e : Ending) → ending ≡ e → LibraryEnds (library_of signatures required outcomes) lib args (state_of top waiting m) e after
       ends_as e is = record { signature = passed_to.signature; is_there = passed_to.is_there; values = values; passed = at_signature; may = subst (λ (x : Ending). outcomes lib values m x after) is may }
 
       pub stops : ending ≡ Stop → (state_of top waiting after ≡ state_of top waiting m) × ((w : List Block) × LibraryEnds (library_of signatures required outcomes) lib args (state_of top waiting m) Stop w)
-      stops is = (ap (λ (l : List Block). state_of top waiting l) (subst (λ (x : Ending). Keeps p passed_to.signature m x after) is keeps), (after, ends_as Stop is))
+      stops is = (ap (λ (l : List Block). state_of top waiting l) (subst (λ (x : Ending). Keeps p passed_to.signature m x after) is kept), (after, ends_as Stop is))
 
       pub returns_with : LibraryStepsStay → (result : Option Value) (now : Frame) → ending ≡ Next result → now ≡ receive to result top →
           LibraryReturns (library_of signatures required outcomes) to lib args (state_of top waiting m) (state_of now waiting after) × Belongs p (state_of now waiting after)
       returns_with stay result now is becomes = (
         record { result = result; ends = ends_as (Next result) is; top = becomes; rest = refl },
-        stay signatures p f to lib args strings passed_to.signature result (state_of top waiting m) (state_of now waiting after) at.whole at.stands passed_to.is_there (subst (λ (x : Ending). Keeps p passed_to.signature m x after) is keeps) becomes refl at.belongs,
+        stay signatures p f to lib args strings passed_to.signature result (state_of top waiting m) (state_of now waiting after) at.whole at.stands passed_to.is_there (subst (λ (x : Ending). Keeps p passed_to.signature m x after) is kept) becomes refl at.belongs,
       )

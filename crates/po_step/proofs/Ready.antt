@@ -1,15 +1,13 @@
 -- What an instruction finds of its operands where all obligations at its node hold in a state that belongs to a whole project.
-use Rattle.std.specs.Prelude.{ℕ, ◌≡◌, ◌≤◌, ◌<◌, ltb, false, true, cond, Bool, ℤ, pos, negsuc, ◌*ℤ◌, List, [], ◌∷◌, ◌++◌, All, Option, Some, None, MatchOption, length, slice_get}
-use Rattle.std.proofs.Common.{refl, sym, ap, ◌∙◌, subst, arith}
+use Rattle.std.specs.Prelude.{ℕ, ◌≡◌, ◌≤◌, ltb, false, true, cond, Bool, ℤ, pos, ◌*ℤ◌, List, [], ◌∷◌, All, Option, Some, None, MatchOption, length, slice_get}
+use Rattle.std.proofs.Common.{refl, subst, arith}
 use Rattle.std.proofs.lemmas.Bool.{lt-ltb}
 use Rattle.std.proofs.lemmas.Int.{ints}
-use Rattle.po_base.specs.declared.numbers.RegNo.{RegNo}
 use Rattle.po_base.specs.declared.numbers.SlotNo.{SlotNo}
 use Rattle.po_base.specs.declared.operators.Op.{Op}
 use Rattle.po_base.specs.declared.operators.Op.TheVariants as op
 use Rattle.po_base.specs.declared.operand.Opnd.{Opnd}
 use Rattle.po_arith.specs.declared.int_type.IntType.{IntType}
-use Rattle.po_arith.specs.Types.{IsIntType, IsOfType}
 use Rattle.po_interval.specs.Ranges.{takes_count}
 use Rattle.po_ir.specs.declared.graph.Node.{Node}
 use Rattle.po_ir.specs.declared.graph.Reg.{Reg as Register}
@@ -24,8 +22,7 @@ use Rattle.po_ir.specs.declared.project.Project.{Project}
 use Rattle.po_ir.specs.IntTypes as ir
 use Rattle.po_ir.specs.IntTypes.{types_in}
 use Rattle.po_ir.specs.Types.{Lies, LiesAmongIntegers, is_shift}
-use Rattle.po_ir.specs.Whole.{Signature, IsWhole, FunctionFits, InstructionFits, AccessFits}
-use Rattle.po_pred.specs.declared.pred.Pred.{Pred}
+use Rattle.po_ir.specs.Whole.{Signature, FunctionFits, InstructionFits, AccessFits}
 use Rattle.po_pred.specs.declared.pred.Pred.TheVariants.{Aligned}
 use Rattle.po_gen.specs.Asks.{Required, asks, place, number, alignment, is_filled, load}
 use Rattle.po_memory.specs.declared.block.Block.{Block}
@@ -33,19 +30,20 @@ use Rattle.po_memory.specs.declared.frame.Frame.{Frame}
 use Rattle.po_memory.specs.declared.value.Value.{Value}
 use Rattle.po_memory.specs.declared.value.Value.TheVariants.{Number}
 use Rattle.po_memory.specs.Accesses.{LoadAllowed}
-use Rattle.po_memory.specs.Blocks.{IsAligned, IsFilled, IsLive, IsNotNull, OnPointer, Spans}
+use Rattle.po_memory.specs.Blocks.{IsAligned, IsFilled, IsLive, IsNotNull, OnPointer}
 use Rattle.po_memory.specs.Bytes as stored_bytes
 use Rattle.po_memory.specs.Bytes.{IsAccess}
 use Rattle.po_memory.specs.Holding.{Holds}
 use Rattle.po_memory.specs.Values.{EachNumber}
-use Rattle.po_meaning.specs.Operands.{Is, pointer_value, slot_block}
-use Rattle.po_meaning.specs.States.{State, StandsAt}
-use Rattle.po_meaning.specs.Belongs.{Belongs, HasSome, IsOfSlot}
+use Rattle.po_meaning.specs.Operands.{pointer_value, slot_block}
+use Rattle.po_meaning.specs.States.{State}
+use Rattle.po_meaning.specs.Belongs.{IsOfSlot}
 use Rattle.po_meaning.proofs.Calls.{value_lies}
-use Rattle.po_meaning.proofs.Held.{Each, asks_hold, each_first, each_last, on_pointer, spanned, store_allowed, copy_spans}
-use Rattle.po_meaning.proofs.Places.{at_place, All-head}
+use Rattle.po_meaning.proofs.Held.{Each, asks_hold, each_first, each_last, on_pointer, spanned, store_allowed}
+use Rattle.po_lists.proofs.Integers.{once}
+use Rattle.po_lists.proofs.Places.{all_at, all_head}
 use Rattle.po_meaning.proofs.Slots.{entered_block}
-use Rattle.po_operate.specs.Ready.{AreOperands, AreOperandsAt, IsNumberOf, IsReady, OnOperand, OnSlot}
+use Rattle.po_operate.specs.Ready.{IsNumberOf, IsReady}
 use Rattle.po_step.specs.Stepping.{IsReadyAt}
 
 no_shift : (o : Op) → takes_count o ≡ false → is_shift o ≡ false
@@ -75,10 +73,6 @@ same_words Ptr is = tt
 on_constant : (fr : Frame) (n : ℤ) (IsSo : ℤ → Type 0) → EachNumber fr (number n) IsSo → IsSo n
 on_constant fr n IsSo h = h.each n (pos 0, refl, omega (arith, ints), omega (arith, ints))
 
-once : (z : ℤ) → pos 1 *ℤ z ≡ z
-once (pos n) = omega (arith, ints)
-once (negsuc n) = omega (arith, ints)
-
 module _ (fr : Frame) (m : List Block) (a : Opnd) (v : Value) (is : pointer_value fr a ≡ Some v) where
   aligned_in : (align : ℕ) (b : Bool) → b ≡ true → Each (Holds fr m) (cond b (Aligned (place a) align ∷ []) []) → OnPointer (IsAligned align) m v
   aligned_in align true is_true h = on_pointer fr a v (OnPointer (IsAligned align) m) is h.0
@@ -105,13 +99,13 @@ module _ (fr : Frame) (m : List Block) (a : Opnd) (v : Value) (is : pointer_valu
 
 module _ (required : Required) (library : List Signature) (p : Project) (f : Function) (i : Instr) (s : State) (at : IsReadyAt required library p f i s) where
   function : FunctionFits library p f
-  function = at_place (FunctionFits library p) p.functions s.top.function.0 f at.whole.functions at.stands.of
+  function = all_at (FunctionFits library p) p.functions s.top.function.0 f at.whole.functions at.stands.of
 
   fits : InstructionFits library p f i
   fits = function.instructions s.top.node.0 i at.stands.node
 
   types : All ir.IsTypeOfTarget (types_in i)
-  types = subst (λ (j : Instr). All ir.IsTypeOfTarget (types_in j)) at.stands.node.2 (at_place (λ (n : Node). All ir.IsTypeOfTarget (types_in n.instr)) f.graph.nodes s.top.node.0 at.stands.node.0 function.types.instructions at.stands.node.1)
+  types = subst (λ (j : Instr). All ir.IsTypeOfTarget (types_in j)) at.stands.node.2 (all_at (λ (n : Node). All ir.IsTypeOfTarget (types_in n.instr)) f.graph.nodes s.top.node.0 at.stands.node.0 function.types.instructions at.stands.node.1)
 
   pub held_asks : Each (Holds s.top s.memory) (asks required f.graph i)
   held_asks = asks_hold required p at.report s f i at.stands at.held
@@ -125,7 +119,7 @@ module _ (required : Required) (library : List Signature) (p : Project) (f : Fun
 
 is_access : (required : Required) (library : List Signature) (p : Project) (f : Function) (i : Instr) (s : State) (at : IsReadyAt required library p f i s) (access : Access) (more : List Ty) → types_in i ≡ access.ty ∷ more → AccessFits p.target access → IsAccess access
 is_access required library p f i s at access more first fit = record {
-  typed = same_words access.ty (All-head ir.IsTypeOfTarget access.ty more (subst (All ir.IsTypeOfTarget) first (types required library p f i s at)));
+  typed = same_words access.ty (all_head ir.IsTypeOfTarget access.ty more (subst (All ir.IsTypeOfTarget) first (types required library p f i s at)));
   fits = (p.target, fit);
 }
 
@@ -134,18 +128,18 @@ ready required library p f (Bin to o (Int t) a b) s at =
     let i : Instr = Bin to o (Int t) a b in
     let lie = (fits required library p f i s at).operands_lie in
     record {
-      typed = All-head ir.IsTypeOfTarget (Int t) [] (types required library p f i s at);
+      typed = all_head ir.IsTypeOfTarget (Int t) [] (types required library p f i s at);
       first = number_of required library p f i s at t a lie.0;
       second = λ plain. number_of required library p f i s at t b (subst (λ (c : Bool). cond c (LiesAmongIntegers f.graph b) (Lies f.graph (Int t) b)) (no_shift o plain) lie.1);
     }
 ready required library p f (Bin to o Ptr a b) s at = tt
 ready required library p f (Un to o t a) s at =
     let i : Instr = Un to o t a in
-    (All-head ir.IsTypeOfTarget (Int t) [] (types required library p f i s at), number_of required library p f i s at t a (fits required library p f i s at).operands_lie)
-ready required library p f (Conv to from ty align) s at = All-head ir.IsTypeOfTarget ty [] (types required library p f (Conv to from ty align) s at)
+    (all_head ir.IsTypeOfTarget (Int t) [] (types required library p f i s at), number_of required library p f i s at t a (fits required library p f i s at).operands_lie)
+ready required library p f (Conv to from ty align) s at = all_head ir.IsTypeOfTarget ty [] (types required library p f (Conv to from ty align) s at)
 ready required library p f (PtrDiff to a b size) s at =
     let i : Instr = PtrDiff to a b size in
-    ((fits required library p f i s at).numbers_fit, λ register there. at_place (λ (x : Register). ir.IsTypeOfTarget x.ty) f.graph.regs to.0 register (function required library p f i s at).types.registers there)
+    ((fits required library p f i s at).numbers_fit, λ register there. all_at (λ (x : Register). ir.IsTypeOfTarget x.ty) f.graph.regs to.0 register (function required library p f i s at).types.registers there)
 ready required library p f (Load to a access) s at =
     let i : Instr = Load to a access in
     (is_access required library p f i s at access [] refl (fits required library p f i s at).numbers_fit, λ v is. load_allowed s.top s.memory a v is access (held_asks required library p f i s at))

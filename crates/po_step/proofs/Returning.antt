@@ -1,5 +1,5 @@
 -- What a return gives, and what becomes of the blocks of its frame's slots.
-use Rattle.std.specs.Prelude.{ℕ, zero, suc, ◌+◌, ◌≡◌, ◌<◌, take, slice_index_or, List, [], ◌∷◌, ◌++◌, Option, Some, None, length, reverse, slice_get}
+use Rattle.std.specs.Prelude.{ℕ, zero, suc, ◌+◌, ◌≡◌, ◌<◌, take, slice_index_or, List, [], ◌∷◌, ◌++◌, Option, Some, None, length, reverse}
 use Rattle.std.proofs.Common.{refl, sym, ap, ◌∙◌, subst, arith}
 use Rattle.std.proofs.lemmas.List.{length-set, reverse-append}
 use Rattle.po_base.specs.declared.operand.Opnd.{Opnd}

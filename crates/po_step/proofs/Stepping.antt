@@ -16,16 +16,15 @@ use Rattle.po_pred.specs.declared.pred.Rule.{Rule}
 use Rattle.po_gen.specs.Asks.{Required}
 use Rattle.po_memory.specs.declared.block.Block.{Block}
 use Rattle.po_memory.specs.declared.frame.Frame.{Frame}
-use Rattle.po_memory.specs.declared.memory.Memory2.{Memory2}
 use Rattle.po_meaning.specs.declared.state.State.{State as Stored}
 use Rattle.po_meaning.specs.Library.{Library}
 use Rattle.po_meaning.specs.States.{State, frames, StandsAt}
 use Rattle.po_meaning.specs.Checks.{Asked, asked_at, AllHold}
 use Rattle.po_meaning.specs.Belongs.{Belongs, FrameBelongs}
 use Rattle.po_meaning.specs.Shown.{Shows}
-use Rattle.po_meaning.proofs.Places.{All-head, at_place, item_at}
+use Rattle.po_lists.proofs.Places.{all_at, all_head, item_at}
 use Rattle.po_step.specs.Checking.{AllOf, IsFirstFailing}
-use Rattle.po_step.specs.Stepping.{AnswersIn, Carries, IsReadyAt, IsStateOf, IsStep, IsViolatedAt, state_of}
+use Rattle.po_step.specs.Stepping.{AnswersIn, Carries, IsStateOf, IsStep, IsViolatedAt, state_of}
 use Rattle.po_step.specs.declared.step.Step.{Step}
 use Rattle.po_step.specs.declared.step.Step.TheVariants.{Next, Ended, Violated}
 use Rattle.po_step.proofs.Returning.{last_first}
@@ -79,8 +78,8 @@ no_none o n none some = cc
 pub node_is_there : WaysStayWithin → (library : List Signature) (p : Project) (f : Function) (top : Frame) (waiting : List Frame) (m : List Block) → IsWhole library p → Belongs p (state_of top waiting m) → slice_get p.functions top.function.0 ≡ Some f →
     slice_get f.graph.nodes top.node.0 ≡ None → ⊥
 node_is_there ways library p f top waiting m whole belongs of none =
-    let frame : FrameBelongs p top = All-head (FrameBelongs p) top (reverse waiting) belongs.each_frame in
-    let its = at_place (FunctionFits library p) p.functions top.function.0 f whole.functions of in
+    let frame : FrameBelongs p top = all_head (FrameBelongs p) top (reverse waiting) belongs.each_frame in
+    let its = all_at (FunctionFits library p) p.functions top.function.0 f whole.functions of in
     let same : frame.function ≡ f = same_function frame.function f (sym frame.of ∙ of) in
     let reached : Reachable f.graph top.node.0 = subst (λ (g : Function). Reachable g.graph top.node.0) same frame.place.node in
     let node = item_at f.graph.nodes top.node.0 (ways f.graph reached.0 top.node.0 its.valid reached.1) in
@@ -104,9 +103,14 @@ violated_at required p r top waiting m place first = record {
 
 pub violated : (l : Library) (p : Project) (r : Report Pred Rule) (top : Frame) (waiting : List Frame) (m : List Block) (list : List Asked) (place index : ℕ) → list ≡ asked_at l.required p r top.function top.node → IsFirstFailing top m list place →
     index ≡ place → Belongs p (state_of top waiting m) → AnswersIn l p r (state_of top waiting m) (Violated top.function top.node index) (state_of top waiting m)
-violated l p r top waiting m list place index is first counted belongs =
-    ((refl, subst (λ (k : ℕ). IsViolatedAt l.required p r (state_of top waiting m) top.function top.node k) (sym counted)
-      (violated_at l.required p r top waiting m place (subst (λ (xs : List Asked). IsFirstFailing top m xs place) is first))), belongs)
+violated l p r top waiting m list place index is first counted belongs = (
+  (
+    refl,
+    subst (λ (k : ℕ). IsViolatedAt l.required p r (state_of top waiting m) top.function top.node k) (sym counted)
+        (violated_at l.required p r top waiting m place (subst (λ (xs : List Asked). IsFirstFailing top m xs place) is first)),
+  ),
+  belongs,
+)
 
 -- ---- instructions
 
@@ -114,3 +118,8 @@ pub carried : (l : Library) (p : Project) (r : Report Pred Rule) (f : Function) 
 carried l p r f i s u Next stands held belongs carries = (record { function = f; instr = i; here = stands; held = held; goes = carries.0 }, carries.1)
 carried l p r f i s u Ended stands held belongs carries = ((carries.0, record { function = f; instr = i; here = stands; held = held; ends = carries.1 }), subst (Belongs p) (sym carries.0) belongs)
 carried l p r f i s u (Violated g n index) stands held belongs carries = absurd carries
+
+-- ---- states
+
+pub stays_of : (l : Library) (p : Project) (r : Report Pred Rule) (before after : Stored) (step : Step) → IsStep l p r before step after → IsStateOf p after
+stays_of l p r before after step is = record { state = is.new; shown = is.new_shown; belongs = is.answers.1 }

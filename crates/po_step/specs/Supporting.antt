@@ -11,7 +11,6 @@ use Rattle.po_core.specs.declared.obl.Cause.{Cause}
 use Rattle.po_core.specs.declared.obl.Cause.TheVariants.{Primary, Support}
 use Rattle.po_core.specs.declared.obl.Obl.{Obl}
 use Rattle.po_core.specs.declared.obl.Verdict.{Verdict}
-use Rattle.po_core.specs.declared.report.Report.{Report}
 use Rattle.po_pred.specs.declared.pred.Pred.{Pred}
 use Rattle.po_pred.specs.declared.pred.Rule.{Rule}
 use Rattle.po_ir.specs.Whole.{IsUnread}

@@ -68,14 +68,21 @@ fn types_of(alloc: Global, registers: &[Reg]) -> Result<List<Ty>, Memory>
 fn first<T>(items: &[T], count: usize) -> &[T]
     ensures { result.now ≡ take count items.now }
 {
-    if count < items.len() { &items[..count] } else { items }
+    if count < items.len() {
+        &items[..count]
+    } else {
+        items
+    }
 }
 
 /// The types of a function's parameters, which are its first registers.
 fn parameters(alloc: Global, f: &Function) -> Result<List<Ty>, Memory>
     ensures { IfOk result (λ types. types ≡ parameter_types f.now) }
 {
-    types_of(alloc, first(f.graph.regs.as_slice(), f.graph.params as usize))
+    types_of(
+        alloc,
+        first(f.graph.regs.as_slice(), f.graph.params as usize),
+    )
 }
 
 /// So many registers or slots without a value.

@@ -131,10 +131,17 @@ pub(crate) fn carry<L: Outcomes>(
             carry_call(alloc, p, f, instr, callee, args.as_slice(), top, waiting, m)?;
             Ok(Step::Next)
         }
-        Instr::Lib { to, lib, args, strings } => {
+        Instr::Lib {
+            to,
+            lib,
+            args,
+            strings,
+        } => {
             let args = args.as_slice();
             let strings = strings.as_slice();
-            carry_library(alloc, library, p, f, *to, *lib, args, strings, top, waiting, m)
+            carry_library(
+                alloc, library, p, f, *to, *lib, args, strings, top, waiting, m,
+            )
         }
         Instr::Return { value } => carry_return(alloc, p, f, instr, value, top, waiting, m),
         _ => {

@@ -7,11 +7,7 @@ use po_memory::{Frame, Memory2};
 use po_pred::Pred;
 
 /// The place of the first obligation that doesn't hold.
-pub(crate) fn first_failing(
-    list: &[(Obl<Pred>, Pred)],
-    frame: &Frame,
-    m: &Memory2,
-) -> Option<usize>
+pub(crate) fn first_failing(list: &[(Obl<Pred>, Pred)], frame: &Frame, m: &Memory2) -> Option<usize>
     ensures { MatchOption result (AllOf frame.now m.now.blocks list.now) (IsFirstFailing frame.now m.now.blocks list.now) }
 {
     for place in 0..list.len() {

@@ -7,13 +7,14 @@ ghost use Rattle.po_step.specs.Outcomes.{IsCalled, Keeps};
 use po_base::{LibNo, Memory};
 use po_gen::Library;
 use po_ir::Ty;
-use po_memory::{Memory2, Value};
 use po_meaning::Ending;
+use po_memory::{Memory2, Value};
 use std::alloc::Global;
 
 /// What the calls of library functions do (C99 7). The relation says what a call may do, and of that `outcome` does one.
 pub trait Outcomes: Library {
     ghost signatures: { Self → List Signature };
+
     ghost outcomes: { Self → Relation };
 
     /// The types of a function's parameters; none where the library has no such function.

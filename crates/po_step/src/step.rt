@@ -99,7 +99,8 @@ pub fn step_once<L: Outcomes>(
     requires whole { IsWhole (L.signatures library.now) p.now }
     requires supports { SupportsFit p.now support.now.lines }
     requires belongs { IsStateOf p.now s.old }
-    ensures { IfOk result (λ step. IsStep (library_of (L.signatures library.now) (L.meaning library.now) (L.outcomes library.now)) p.now support.now s.old step s.new) }
+    ensures step { IfOk result (λ step. IsStep (library_of (L.signatures library.now) (L.meaning library.now) (L.outcomes library.now)) p.now support.now s.old step s.new) }
+    ensures stays { IfOk result (λ _. IsStateOf p.now s.new) }
 {
     match s.frames.pop() {
         None => unreachable!(),

@@ -1,5 +1,5 @@
 use Rattle.std.proofs.Common.{sym}
-use Rattle.po_ir.proofs.General.{if_ok-map}
+use Rattle.po_lists.proofs.Results.{if_ok-map}
 use Rattle.po_ir.specs.declared.instr.Ty.TheVariants.{Int}
 use Rattle.po_meaning.specs.Local.{IsDistance}
 use Rattle.po_operate.specs.Finding.{Finds}

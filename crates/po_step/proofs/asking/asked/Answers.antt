@@ -1,4 +1,4 @@
-use Rattle.std.specs.Prelude.{◌≡◌, ◌++◌, List}
+use Rattle.std.specs.Prelude.{◌++◌, List}
 use Rattle.std.proofs.Common.{ap, ◌∙◌}
 use Rattle.po_meaning.specs.Checks.{Asked, primaries}
 use Rattle.po_step.proofs.Fitting.{takes_all}

@@ -1,7 +1,5 @@
-use Rattle.std.specs.Prelude.{Bool, List}
+use Rattle.std.specs.Prelude.{Bool}
 use Rattle.std.proofs.Common.{subst}
-use Rattle.po_memory.specs.declared.block.Block.{Block}
-use Rattle.po_memory.specs.declared.frame.Frame.{Frame}
 use Rattle.po_meaning.specs.Local.{Local}
 use Rattle.po_operate.specs.Finding.{Follows}
 use Rattle.po_step.specs.Stepping.{state_of}

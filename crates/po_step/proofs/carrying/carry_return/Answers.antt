@@ -19,4 +19,4 @@ returns-then-branch c =
     returns_moved c.states_follow.ensures c.steps_stay.ensures c.requires.ready.0 c.requires.ready.1 c.args.p.now c.args.f.now c.args.instr.now c.args.value.now
     (state_of c.args.top.now c.args.waiting.now c.args.m.now.blocks) (state_of c.return_from.new.top c.return_from.new.waiting c.return_from.new.m.blocks) c.requires.returning c.requires.ready.2
     (subst (λ (b : Bool). ReturnsOrEnds b c.args.p.now c.args.f.now c.args.value.now (state_of c.args.top.now c.args.waiting.now c.args.m.now.blocks) (state_of c.return_from.new.top c.return_from.new.waiting c.return_from.new.m.blocks))
-      c.if-branch.true c.in_ok-return_from.ensures)
+    c.if-branch.true c.in_ok-return_from.ensures)
