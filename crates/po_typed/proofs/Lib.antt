@@ -4,3 +4,4 @@ pub mod OneType
 pub mod OneBase
 pub mod OneForm
 pub mod OneExpression
+pub mod OneInitialiser
