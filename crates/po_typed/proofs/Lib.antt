@@ -5,3 +5,4 @@ pub mod OneBase
 pub mod OneForm
 pub mod OneExpression
 pub mod OneInitialiser
+pub mod OneSpecifier
