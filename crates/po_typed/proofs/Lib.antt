@@ -6,3 +6,4 @@ pub mod OneForm
 pub mod OneExpression
 pub mod OneInitialiser
 pub mod OneSpecifier
+pub mod OneDeclaration

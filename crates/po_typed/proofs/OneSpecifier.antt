@@ -130,7 +130,7 @@ one_extents (x ∷ xs) (y ∷ ys) p q =
     let e : x ≡ y = ap (λ z. extent z x.align) k ∙ ap (extent y.size) a in
     cc
 
-specifies_is_no_word : {ctx a : Context} {s : SpecifierLayer} {t : CType} {k : Bool} {ps : List Pair} → Specifies ctx s t k a ps → IsWord s → ⊥
+pub specifies_is_no_word : {ctx a : Context} {s : SpecifierLayer} {t : CType} {k : Bool} {ps : List Pair} → Specifies ctx s t k a ps → IsWord s → ⊥
 specifies_is_no_word (typedef_used h) w = w
 specifies_is_no_word (struct_used h) w = w
 specifies_is_no_word (struct_declared h) w = w
