@@ -7,3 +7,4 @@ pub mod OneExpression
 pub mod OneInitialiser
 pub mod OneSpecifier
 pub mod OneDeclaration
+pub mod OneStatement

@@ -24,7 +24,7 @@ use Rattle.po_typed.specs.Forms.{SpecifierLayer}
 use Rattle.po_typed.specs.Scopes.{Context, Meaning, global, function, local, type_name, meaning, word_here, IsNew, with_word, in_new_block, back_in}
 use Rattle.po_typed.specs.BaseTypes.{TypeWords, no_more_words, word_of_type, word_types, IsWordType, starred}
 use Rattle.po_typed.specs.Expressions.{Pair}
-use Rattle.po_typed.specs.Initialisers.{static_place, Initialises}
+use Rattle.po_typed.specs.Initialisers.{Place, static_place, Initialises}
 use Rattle.po_typed.specs.Declarations.{Says, tags_in, Introduces, Shapes, plain_shape, array_shape, IsBare, IsVoidAlone, void_word, void_name, Adjusted, number_taken, pointer_taken, array_taken, Enters, unnamed_parameter, named_parameter, register_parameter, Specified, specified_by_words, specified_by_one, Specifies, typedef_used, Listed, no_more_params, one_more_param, Takes, takes_void, takes_params, Declares, declares_shape, declares_function, ConstOf, const_by_specifiers, const_by_star, File, with_context, retold, Names, named_first, named_again, is_static_class, Part, part_typedef, part_function, part_function_again, part_object, part_initialised, Parts, no_more_parts, one_more_part, DeclaredIn, lone_semicolon, declared_alone, declared_parts}
 use Rattle.po_typed.proofs.OneConstant.{one_some}
 use Rattle.po_typed.proofs.OneWordType.{word_type_is_one}
@@ -69,7 +69,7 @@ one_entered (register_parameter n h) (register_parameter n' h') = refl
 enters_as : {ctx ctx' a : Context} {specs : List Specifier} {name : Option (List ℕ)} {t t' : CType} → Enters ctx' specs name t' a → ctx ≡ ctx' → t ≡ t' → Enters ctx specs name t a
 enters_as {ctx' = ctx'} {a = a} {specs = specs} {name = name} {t = t} A e f = subst (λ z. Enters z specs name t a) (sym e) (subst (λ z. Enters ctx' specs name z a) (sym f) A)
 
-listed_as : {ctx ctx' a : Context} {params : List Param} {ts : List CType} {ps : List Pair} → Listed ctx' params ts a ps → ctx ≡ ctx' → Listed ctx params ts a ps
+pub listed_as : {ctx ctx' a : Context} {params : List Param} {ts : List CType} {ps : List Pair} → Listed ctx' params ts a ps → ctx ≡ ctx' → Listed ctx params ts a ps
 listed_as {a = a} {params = params} {ts = ts} {ps = ps} A e = subst (λ z. Listed z params ts a ps) (sym e) A
 
 pub takes_as : {ctx a : Context} {params others : List Param} {ts : List CType} {ps : List Pair} → Takes ctx others ts a ps → params ≡ others → Takes ctx params ts a ps
@@ -210,9 +210,9 @@ typedef_or_other : {A : Type 0} {class : Option (List ℕ)} → class ≡ Some (
 typedef_or_other {class = class} q h =
     never (ap is_typedef_class q) (All-contains (λ z. is_typedef_class z ≡ false) is_static_class class (All-from_recursion (λ z. is_typedef_class z ≡ false) is_static_class (refl, (refl, (refl, tt)))) h)
 
-initialises_as : {ctx ctx' : Context} {t t' v : CType} {x : Init-F Init} {ps : List Pair} → Initialises ctx' static_place t' x v ps → ctx ≡ ctx' → t ≡ t' →
-    Initialises ctx static_place t x v ps
-initialises_as {ctx' = ctx'} {t = t} {v = v} {x = x} {ps = ps} A e f = subst (λ z. Initialises z static_place t x v ps) (sym e) (subst (λ z. Initialises ctx' static_place z x v ps) (sym f) A)
+pub initialises_as : {ctx ctx' : Context} {place : Place} {t t' v : CType} {x : Init-F Init} {ps : List Pair} → Initialises ctx' place t' x v ps → ctx ≡ ctx' → t ≡ t' →
+    Initialises ctx place t x v ps
+initialises_as {ctx' = ctx'} {place = place} {t = t} {v = v} {x = x} {ps = ps} A e f = subst (λ z. Initialises z place t x v ps) (sym e) (subst (λ z. Initialises ctx' place z x v ps) (sym f) A)
 
 introduces_in : {ctx ctx' a : Context} {tags : List (List ℕ)} → Introduces ctx' tags a → ctx ≡ ctx' → Introduces ctx tags a
 introduces_in {a = a} {tags = tags} A e = subst (λ z. Introduces z tags a) (sym e) A
