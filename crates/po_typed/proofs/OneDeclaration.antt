@@ -221,7 +221,7 @@ parts_as : {file file' f : File} {class class' : Option (List ℕ)} {inline inli
     Parts file' class' inline' base' const' parts f → file ≡ file' → class ≡ class' → inline ≡ inline' → base ≡ base' → const ≡ const' → Parts file class inline base const parts f
 parts_as {file' = file'} {f = f} {class = class} {class' = class'} {inline = inline} {inline' = inline'} {const = const} {base = base} {base' = base'} {parts = parts} A e g h i j =
     subst (λ z. Parts z class inline base const parts f) (sym e) (subst (λ z. Parts file' z inline base const parts f) (sym g) (subst (λ z. Parts file' class' z base const parts f) (sym h)
-        (subst (λ z. Parts file' class' inline' z const parts f) (sym i) (subst (λ z. Parts file' class' inline' base' z parts f) (sym j) A))))
+    (subst (λ z. Parts file' class' inline' z const parts f) (sym i) (subst (λ z. Parts file' class' inline' base' z parts f) (sym j) A))))
 
 module _ (one_format : OneFormat) (one_layout : OneLayout) where
   pub one_listed : {ctx a b : Context} {params : List Param} {ts us : List CType} {ps qs : List Pair} → Listed ctx params ts a ps → Listed ctx params us b qs → SameList ts a ps us b qs
@@ -268,7 +268,7 @@ module _ (one_format : OneFormat) (one_layout : OneLayout) where
       let Q = one_declared D D' in
       let e = one_some q q' in
       ap (λ z. with_context file (with_word name (type_name t k) z)) Q.context ∙ ap (λ z. with_context file (with_word name (type_name z k) b)) Q.type ∙
-          ap (λ z. with_context file (with_word name (type_name u z) b)) (one_const K K') ∙ ap (λ z. with_context file (with_word z (type_name u m) b)) e
+      ap (λ z. with_context file (with_word name (type_name u z) b)) (one_const K K') ∙ ap (λ z. with_context file (with_word z (type_name u m) b)) e
   one_part (part_typedef i n q D w K) (part_function q' h' D' s' w') = typedef_or_other i h'
   one_part (part_typedef i n q D w K) (part_function_again q' h' D' s' w') = typedef_or_other i h'
   one_part (part_typedef i n q D w K) (part_object q' h' H' s' v' N') = typedef_or_other i h'
@@ -276,7 +276,7 @@ module _ (one_format : OneFormat) (one_layout : OneLayout) where
   one_part {file = file} (part_function {t = t} {name = name} q h D s w) (part_function {inner = b} {t = u} q' h' D' s' w') =
       let Q = one_declared D D' in
       ap (λ z. with_context file (with_word name (function t) z)) Q.context ∙ ap (λ z. with_context file (with_word name (function z) b)) Q.type ∙
-          ap (λ z. with_context file (with_word z (function u) b)) (one_some q q')
+      ap (λ z. with_context file (with_word z (function u) b)) (one_some q q')
   one_part (part_function q h D s w) (part_function_again q' h' D' s' w') = new_or_again q q' D D' w w'
   one_part (part_function q h D s w) (part_object q' h' H' s' v' N') = function_or_object D s H' s'
   one_part (part_function_again q h D s w) (part_typedef i' n' q' D' w' K') = typedef_or_other i' h
@@ -299,7 +299,7 @@ module _ (one_format : OneFormat) (one_layout : OneLayout) where
       let W = one_initialised one_format a static_place V (initialises_as V' ec Q.type) in
       let left : File → Context → CType → CType → ℕ → List ℕ → File = λ f z t r m word. record { context = retold word (global (composite t r) m) z; objects = f.objects; initialised = word ∷ f.initialised } in
       ap (λ z. left z a u v n name) O.file ∙ ap (λ z. left mid' z u v n name) ec ∙ ap (λ z. left mid' b z v n name) O.type ∙ ap (λ z. left mid' b u' z n name) W.type ∙
-          ap (λ z. left mid' b u' v' z name) O.number ∙ ap (left mid' b u' v' n') e
+      ap (λ z. left mid' b u' v' z name) O.number ∙ ap (left mid' b u' v' n') e
 
   one_parts : {file f g : File} {class : Option (List ℕ)} {inline const : Bool} {base : CType} {parts : List (Declarator × Option Init)} → Parts file class inline base const parts f →
       Parts file class inline base const parts g → f ≡ g

@@ -1,5 +1,5 @@
 -- A statement has one list of pairs, and a definition has one typing.
-use Rattle.std.proofs.Common.{◌≡◌, ◌≢◌, ℕ, List, [], ◌∷◌, ◌++◌, flat_map, cond, ◌==◌, Option, Some, None, IsSome, Bool, true, false, refl, sym, ap, ◌∙◌, subst, codes, Contains, All}
+use Rattle.std.proofs.Common.{◌≡◌, ◌≢◌, ℕ, List, [], ◌∷◌, ◌++◌, map, flat_map, cond, ◌==◌, Option, Some, None, IsSome, Bool, true, false, refl, sym, ap, ◌∙◌, subst, codes, Contains, All}
 use Rattle.std.specs.Prelude.{ℤ}
 use Rattle.std.proofs.lemmas.List.Elements.{All-head}
 use Rattle.po_arith.specs.declared.int_type.IntType.{IntType}
@@ -23,6 +23,8 @@ use Rattle.po_typed.specs.Constants.{Becomes}
 use Rattle.po_typed.specs.Expressions.{Pair, IsArray}
 use Rattle.po_typed.specs.Initialisers.{Place, static_place, automatic_place, Initialises}
 use Rattle.po_typed.specs.Declarations.{IsVoidAlone, void_word, void_name, Listed, File, with_context}
+use Rattle.po_typed.specs.Environments.{IsTyping}
+use Rattle.po_typed.specs.declared.typed.TypedFun.{TypedFun}
 use Rattle.po_typed.specs.Statements.{Around, in_loop, in_switch, aside, own_labels, apart_from, StoredAs, stored_in_block, stored_auto, stored_register, stored_static, ShapesHere, plain_here, array_here, Locals, no_more_locals, plain_local, initialised_local, DeclaredHere, declared_here, AllInitialised, IsUnused, Controls, MaybeUnused, nothing_unused, something_unused, MaybeControls, nothing_controls, something_controls, IsNoBlock, no_block_layer, Runs, block, expression, empty, if_alone, if_else, switch_block, switch_other, case, default, label, while, do_while, for_nothing, for_value, for_variables, goto, continue, break, return_nothing, return_value, Items, no_more_items, statement, declaration, declaration_without, AllNamed, Receives, receives_nothing, receives_void, receives_params, NamesFunction, function_new, function_again, atop, around_body, Defines, defines}
 use Rattle.po_typed.proofs.OneConstant.{one_some}
 use Rattle.po_typed.proofs.OneType.{found_or_not, one_integer, one_tested}
@@ -102,7 +104,7 @@ locals_as : {ctx ctx' a : Context} {storage storage' : Storage} {place place' : 
     Locals ctx' storage' place' base' parts a ps → ctx ≡ ctx' → storage ≡ storage' → place ≡ place' → base ≡ base' → Locals ctx storage place base parts a ps
 locals_as {ctx' = ctx'} {a = a} {storage = storage} {storage' = storage'} {place = place} {place' = place'} {base = base} {parts = parts} {ps = ps} A e f g h =
     subst (λ z. Locals z storage place base parts a ps) (sym e) (subst (λ z. Locals ctx' z place base parts a ps) (sym f)
-        (subst (λ z. Locals ctx' storage' z base parts a ps) (sym g) (subst (λ z. Locals ctx' storage' place' z parts a ps) (sym h) A)))
+    (subst (λ z. Locals ctx' storage' z base parts a ps) (sym g) (subst (λ z. Locals ctx' storage' place' z parts a ps) (sym h) A)))
 
 initialiser_as : {ctx : Context} {place : Place} {t v : CType} {l m : Init-F Init} {ps : List Pair} → Initialises ctx place t m v ps → l ≡ m → Initialises ctx place t l v ps
 initialiser_as {ctx = ctx} {place = place} {t = t} {v = v} {ps = ps} A e = subst (λ z. Initialises ctx place t z v ps) (sym e) A
@@ -130,7 +132,7 @@ switched_as : {ctx : Context} (w : Around) (targets : List (List ℕ)) {xs ys : 
     Items (in_new_block ctx) (in_switch (Some (promoted t)) w) (flat_map own_labels xs ++ targets) [] xs marks ps
 switched_as {ctx = ctx} w targets {xs = xs} {marks = marks} {ps = ps} t u A e f =
     subst (λ z. Items (in_new_block ctx) (in_switch (Some (promoted z)) w) (flat_map own_labels xs ++ targets) [] xs marks ps) (sym e)
-        (subst (λ z. Items (in_new_block ctx) (in_switch (Some (promoted u)) w) (flat_map own_labels z ++ targets) [] z marks ps) (sym f) A)
+    (subst (λ z. Items (in_new_block ctx) (in_switch (Some (promoted u)) w) (flat_map own_labels z ++ targets) [] z marks ps) (sym f) A)
 
 -- `(void)` has no names
 void_is_unnamed : {A : Type 0} {ctx : Context} {params : List Param} → IsVoidAlone ctx params → AllNamed params → A
@@ -289,3 +291,14 @@ module _ (one_format : OneFormat) (one_layout : OneLayout) where
       let eo = one_name N (names_function_as N' (ap (λ z. back_in z inner) Q.context ∙ ap (back_in mid') L.context) (one_some n n') et) in
       let B = one_items one_format I (items_as I' (ap (λ z. atop z outer) L.context ∙ ap (atop inner') eo) (ap around_body eb)) in
       record { file = ap (with_context file) eo; pairs = joined Q.pairs (joined L.pairs B.pairs) }
+
+  tree_as : {file f : File} {tree other : FunTree} {ps : List Pair} → Defines file other f ps → tree ≡ other → Defines file tree f ps
+  tree_as {file = file} {f = f} {ps = ps} D e = subst (λ z. Defines file z f ps) (sym e) D
+
+  pub one_typing_of_definition : {file : File} (f g : TypedFun) (d : IsTyping file f) (e : IsTyping file g) → f.tree ≡ g.tree → (f ≡ g) × (d.behind ≡ e.behind)
+  one_typing_of_definition f g d e q =
+      let S = one_definition d.defines (tree_as e.defines q) in
+      let types : f.types ≡ g.types = d.types ∙ ap (map (λ p. p.type)) S.pairs ∙ sym e.types in
+      let conversions : f.conversions ≡ g.conversions = d.conversions ∙ ap (map (λ p. p.conversion)) S.pairs ∙ sym e.conversions in
+      let typed : FunTree → List CType → List CType → TypedFun = λ tree types conversions. record { tree = tree; types = types; conversions = conversions } in
+      (ap (λ z. typed z f.types f.conversions) q ∙ ap (λ z. typed g.tree z f.conversions) types ∙ ap (typed g.tree g.types) conversions, S.file)
