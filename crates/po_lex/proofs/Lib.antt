@@ -11,3 +11,5 @@ mod Longest
 mod Lines
 mod Selected
 mod Placed
+mod Tables
+mod Words

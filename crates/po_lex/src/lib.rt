@@ -6,6 +6,7 @@ mod bytes;
 mod closing;
 mod directive;
 mod effect;
+mod extension;
 mod keeping;
 mod laws;
 mod lead;
@@ -18,6 +19,7 @@ mod sign;
 mod walk;
 
 pub use effect::Effect;
+pub use extension::Extension;
 pub use keeping::{Mood, kept};
 pub use laws::{
     kept_are_selected, longest_part_stands, one_division, one_failure, one_kept_list,
