@@ -30,10 +30,10 @@ use Rattle.po_typed.specs.BaseTypes.{HasWord, no_more_words, word_of_type, word_
 use Rattle.po_typed.specs.Expressions.{Pair, pair, int, Types, number, size_of_type, IsStarredBase, base_words, Named, named_array, sized_first, no_more_sizes, one_more_size, Constant, constant_number, constant_size_of_type}
 use Rattle.po_typed.proofs.OneWordType.{same_text}
 
-three : Exp
+pub three : Exp
 three = e.Num (codes "3")
 
-three_ints : TypeName
+pub three_ints : TypeName
 three_ints = record { specs = sp.Word (codes "int") ∷ []; declarator = record { stars = []; name = None; suffix = su.Arrays (Some three ∷ []) } }
 
 out_three : out-Exp three ≡ Exp-F.Num (codes "3")
@@ -88,7 +88,7 @@ module _ (structs : List (Option Layout)) (members : List (List (List ℕ × CTy
         base = int;
         allowed = λ word h k. never (ap (λ z. nat_eq (length z) 3) (only_int word k)) (is_no_class word h);
         said = base_words is_int;
-        restricted = λ k. never (ap (λ z. nat_eq (length z) 8) (only_int (codes "restrict") k)) refl;
+        restricted = λ k. never (sym (ap (λ z. nat_eq (length z) 8) (only_int (codes "restrict") k))) refl;
         pointable = λ n. absurd (n refl);
         unnamed = refl;
         type = refl;

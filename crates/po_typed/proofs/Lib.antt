@@ -8,3 +8,4 @@ pub mod OneInitialiser
 pub mod OneSpecifier
 pub mod OneDeclaration
 pub mod OneStatement
+pub mod Examples
