@@ -6,5 +6,7 @@ pub mod Waiting
 pub mod Behind
 pub mod Weights
 pub mod Thin
-pub mod Moves
+pub mod Squares
+pub mod Steps
+pub mod InitSteps
 pub mod Threaded

@@ -11,4 +11,5 @@ pub mod Order
 pub mod Scope
 pub mod Gathering
 pub mod Layers
-pub mod Letting
+pub mod Dropping
+pub mod DroppingInitialisers

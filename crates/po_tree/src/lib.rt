@@ -3,15 +3,16 @@
 #![tactic(auto)]
 
 mod declaration;
+mod dropping;
+mod dropping_initialisers;
 mod expression;
 mod function;
 mod laws;
-mod letting;
 mod names;
 mod operator;
 mod statement;
 
-pub use declaration::{Decl, Init};
+pub use declaration::{Decl, Init, InitParts};
 pub use expression::{Declarator, Exp, Member, Param, Specifier, Suffix, TypeName};
 pub use function::FunTree;
 pub use laws::names_behind;
