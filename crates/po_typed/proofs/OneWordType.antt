@@ -14,7 +14,7 @@ use Rattle.po_types.specs.declared.ctype.CType.TheVariants as c
 use Rattle.po_types.specs.Integers.{signed_type, unsigned_type, bool_type, char_type, int_type, long_type, size_type}
 use Rattle.po_typed.specs.BaseTypes.{TypeWords, no_more_words, word_of_type, other_word, word_types, IsWordType}
 
-out_word : (text : List ℕ) → out-Specifier (sp.Word text) ≡ Specifier-F.Word text
+pub out_word : (text : List ℕ) → out-Specifier (sp.Word text) ≡ Specifier-F.Word text
 out_word text = ap out-Specifier (sym (sp.rolls-Word text)) ∙ out-roll-Specifier (Specifier-F.Word text)
 
 pub same_text : {x y : List ℕ} → sp.Word x ≡ sp.Word y → x ≡ y

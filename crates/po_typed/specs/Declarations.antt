@@ -15,7 +15,7 @@ use Rattle.po_tree.specs.declared.expression.Declarator.{Declarator}
 use Rattle.po_tree.specs.declared.expression.Member.{Member, out-Member}
 use Rattle.po_tree.specs.declared.expression.Param.{Param, out-Param}
 use Rattle.po_tree.specs.declared.expression.TypeName.{TypeName}
-use Rattle.po_tree.specs.declared.declaration.Init.{Init}
+use Rattle.po_tree.specs.declared.declaration.Init.{Init, out-Init}
 use Rattle.po_tree.specs.declared.declaration.Decl.{Decl}
 use Rattle.po_tree.specs.Order.{expressions, init_expressions}
 use Rattle.po_tree.specs.Words.{storage_classes}
@@ -251,7 +251,7 @@ pub data Part : File → Option (List ℕ) → Bool → CType → Bool → Decla
   part_initialised : (file mid : File) (inner own : Context) (class : Option (List ℕ)) (const : Bool) (base t u v : CType) (n : ℕ) (d : Declarator) (x : Init) (name : List ℕ) (ps qs : List Pair) →
       d.name ≡ Some name → Contains is_static_class class → Shapes file.context base d t inner ps → signature t ≡ None → t ≢ c.Void →
       Names (with_context file inner) name t u n mid → (Contains file.initialised name → ⊥) →
-      Introduces mid.context (tags_in (init_expressions x)) own → Initialises own static_place t x v qs → Agree u v →
+      Introduces mid.context (tags_in (init_expressions x)) own → Initialises own static_place t (out-Init x) v qs → Agree u v →
       Part file class false base const (d, Some x)
       (record { context = retold name (global (composite u v) n) own; objects = mid.objects; initialised = name ∷ mid.initialised })
 

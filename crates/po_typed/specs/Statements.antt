@@ -3,12 +3,12 @@ use Rattle.std.specs.Prelude.{ℕ, ◌≡◌, ◌≢◌, Bool, true, false, List
 use Rattle.std.specs.List.{list_any}
 use Rattle.std.specs.Str.{bytes_eq}
 use Rattle.po_arith.specs.declared.int_type.IntType.{IntType}
-use Rattle.po_tree.specs.declared.expression.Exp.{Exp}
+use Rattle.po_tree.specs.declared.expression.Exp.{Exp, out-Exp}
 use Rattle.po_tree.specs.declared.expression.Specifier.{Specifier}
 use Rattle.po_tree.specs.declared.expression.Suffix.TheVariants as su
 use Rattle.po_tree.specs.declared.expression.Declarator.{Declarator}
 use Rattle.po_tree.specs.declared.expression.Param.{Param, out-Param}
-use Rattle.po_tree.specs.declared.declaration.Init.{Init}
+use Rattle.po_tree.specs.declared.declaration.Init.{Init, out-Init}
 use Rattle.po_tree.specs.declared.declaration.Decl.{Decl}
 use Rattle.po_tree.specs.declared.statement.First.TheVariants as f
 use Rattle.po_tree.specs.declared.statement.Stmt.{Stmt, fold-Stmt, out-Stmt}
@@ -96,7 +96,7 @@ pub data Locals : Context → Storage → Place → CType → List (Declarator �
       ShapesHere ctx base d name t ps → IsNew ctx name → IsComplete ctx t → Locals (with_word name (local storage t) ctx) storage place base parts ctx' qs →
       Locals ctx storage place base ((d, None) ∷ parts) ctx' (ps ++ qs)
   initialised_local : (ctx ctx' : Context) (storage : Storage) (place : Place) (base t u : CType) (d : Declarator) (name : List ℕ) (x : Init) (parts : List (Declarator × Option Init)) (ps qs rs : List Pair) →
-      ShapesHere ctx base d name t ps → IsNew ctx name → Initialises (with_word name (local storage t) ctx) place t x u qs → IsComplete ctx u →
+      ShapesHere ctx base d name t ps → IsNew ctx name → Initialises (with_word name (local storage t) ctx) place t (out-Init x) u qs → IsComplete ctx u →
       Locals (with_word name (local storage u) ctx) storage place base parts ctx' rs → Locals ctx storage place base ((d, Some x) ∷ parts) ctx' (ps ++ (qs ++ rs))
 
 -- a declaration in a block: objects alone, without a typedef, a tag, a function or `extern`
@@ -166,7 +166,7 @@ mutual
         Operand ctx x (c.Int t) (c.Int (promoted t)) ps → Runs ctx (in_switch None w) targets s [] qs → Runs ctx w targets (st.Switch x s) [] (ps ++ qs)
     -- 6.8.1, 6.8.4.2p3, p5
     case : (ctx : Context) (w : Around) (targets : List (List ℕ)) (x : Exp) (t k : IntType) (v n : ℤ) (s : Stmt) (marks : List (Option ℤ)) (ps qs : List Pair) →
-        w.cases ≡ Some t → Types ctx x (c.Int k) (c.Int t) ps → Constant ctx x k v → Becomes t v n → Runs ctx w targets s marks qs →
+        w.cases ≡ Some t → Types ctx (out-Exp x) (c.Int k) (c.Int t) ps → Constant ctx (out-Exp x) k v → Becomes t v n → Runs ctx w targets s marks qs →
         Runs ctx w targets (st.Case x s) (Some n ∷ marks) (ps ++ qs)
     default : (ctx : Context) (w : Around) (targets : List (List ℕ)) (s : Stmt) (marks : List (Option ℤ)) (ps : List Pair) → IsSome w.cases → Runs ctx w targets s marks ps →
         Runs ctx w targets (st.Default s) (None ∷ marks) ps
