@@ -13,3 +13,5 @@ mod Selected
 mod Placed
 mod Tables
 mod Words
+mod Texts
+mod Balance
