@@ -1,7 +1,7 @@
 -- The walk over a literal or a comment ends where the standard says.
-use Rattle.std.proofs.Common.{◌≡◌, ℕ, ◌+◌, ◌<◌, ◌≤◌, Bool, true, false, cond, List, [], ◌∷◌, ◌++◌, length, drop, arith, sym, ap, refl, ◌∙◌, subst, append_assoc, length-append, ne_eqb}
+use Rattle.std.proofs.Common.{◌≡◌, ℕ, ◌+◌, Bool, true, false, cond, List, [], ◌∷◌, ◌++◌, length, drop, arith, sym, ap, refl, ◌∙◌, subst, append_assoc, length-append, ne_eqb}
 use Rattle.std.specs.Prelude.{◌≢◌, ◌==◌, ◌&&◌, ◌||◌, not, codes, slice_index}
-use Rattle.std.proofs.lemmas.Bool.{eqb-true, eqb-false, eq-eqb}
+use Rattle.std.proofs.lemmas.Bool.{eqb-true, eqb-false, eq-eqb, false_from_ne_true}
 use Rattle.std.proofs.lemmas.List.{append_cancel_right}
 use Rattle.po_lex.specs.Rows.{skip}
 use Rattle.po_lex.specs.Leads.{beginning, lead_of, opening, row_of, closing}
@@ -167,3 +167,122 @@ character_stands fresh text rest h =
     } in
     subst (λ v. Stands fresh (v ++ rest) (record { lead = l.Char; text = v; effect = e.Silent }) rest) (sym h.2)
     (subst (λ v. Stands fresh v (record { lead = l.Char; text = literal 39 chars; effect = e.Silent }) rest) (sym all) there)
+
+both_true : (a b : Bool) → (a && b) ≡ true → (a ≡ true) × (b ≡ true)
+both_true true b h = (refl, h)
+both_true false b h = absurd (cc)
+
+one_end : HasNoEnd (42 ∷ [])
+one_end before after q = let n : 1 ≡ length before + length (42 ∷ 47 ∷ after) = ap length q ∙ length-append before (42 ∷ 47 ∷ after) in omega (arith, n)
+
+-- where the first byte isn't the one of `*/`, the bytes behind it don't begin with the other
+second_byte : (c : ℕ) (cs mid rest after : List ℕ) → c ∷ cs ≡ mid ++ (42 ∷ 47 ∷ rest) → mid ++ (42 ∷ []) ≡ 47 ∷ after → c ≡ 47
+second_byte c cs [] rest after p t =
+    let e : 42 ≡ 47 = cc in
+    let bad : (42 == 47) ≡ true = ap (λ v. v == 47) e in absurd (cc)
+second_byte c cs (m ∷ ms) rest after p t =
+    let a : c ≡ m = cc in
+    let b : m ≡ 47 = cc in a ∙ b
+
+longer : (before c : ℕ) (cs mid rest : List ℕ) → ((before == 42) && (c == 47)) ≡ false → c ∷ cs ≡ mid ++ (42 ∷ 47 ∷ rest) → HasNoEnd (mid ++ (42 ∷ [])) →
+    HasNoEnd (before ∷ (mid ++ (42 ∷ [])))
+longer before c cs mid rest other parts none [] after q =
+    let star : before ≡ 42 = cc in
+    let tail : mid ++ (42 ∷ []) ≡ 47 ∷ after = cc in
+    let a : (before == 42) ≡ true = eq-eqb before 42 star in
+    let b : (c == 47) ≡ true = eq-eqb c 47 (second_byte c cs mid rest after parts tail) in
+    let yes : ((before == 42) && (c == 47)) ≡ true = rw (a, b) refl in
+    let bad : true ≡ false = sym yes ∙ other in absurd (cc)
+longer before c cs mid rest other parts none (x ∷ xs) after q = none xs after (cc)
+
+-- What a walk over a comment has read when it stops at the `/` of its `*/`; one byte stands before it.
+comment_read : (before : ℕ) (xs rest : List ℕ) → skip r.Comment before xs ≡ 47 ∷ rest →
+    (mid : List ℕ) × (before ∷ xs ≡ mid ++ (42 ∷ 47 ∷ rest)) × HasNoEnd (mid ++ (42 ∷ []))
+comment_read before [] rest h = absurd (cc)
+comment_read before (c ∷ cs) rest h =
+    elim ((before == 42) && (c == 47)) as (λ b. ((before == 42) && (c == 47)) ≡ b → cond (not b) (skip r.Comment c cs) (c ∷ cs) ≡ 47 ∷ rest →
+    (mid : List ℕ) × (before ∷ (c ∷ cs) ≡ mid ++ (42 ∷ 47 ∷ rest)) × HasNoEnd (mid ++ (42 ∷ []))) [
+      | true ↦ (λ q k. let star : before ≡ 42 = eqb-true before 42 (both_true (before == 42) (c == 47) q).0 in
+          ([], ap (λ v. v ∷ (c ∷ cs)) star ∙ ap (λ v. 42 ∷ v) k, one_end))
+      | false ↦ (λ q k. let so = comment_read c cs rest k in (before ∷ so.0, ap (λ v. before ∷ v) so.1, longer before c cs so.0 rest q so.1 so.2))
+    ] refl h
+
+not_empty : (xs ys : List ℕ) (y : ℕ) → [] ≡ xs ++ (y ∷ ys) → ⊥
+not_empty [] ys y q = absurd (cc)
+not_empty (x ∷ xs) ys y q = absurd (cc)
+
+begins_end : (mid : List ℕ) (c : ℕ) (cs rest : List ℕ) → c ∷ cs ≡ mid ++ (42 ∷ 47 ∷ rest) → c ≡ 47 → (after : List ℕ) × (mid ++ (42 ∷ []) ≡ 47 ∷ after)
+begins_end [] c cs rest p q =
+    let e : c ≡ 42 = cc in
+    let bad : (42 == 47) ≡ true = ap (λ v. v == 47) (sym e ∙ q) in absurd (cc)
+begins_end (m ∷ ms) c cs rest p q =
+    let e : m ≡ c = cc in (ms ++ (42 ∷ []), ap (λ v. v ∷ (ms ++ (42 ∷ []))) (e ∙ q))
+
+-- the walk stops at the first `*/`
+comment_stops : (mid : List ℕ) (before : ℕ) (xs rest : List ℕ) → before ∷ xs ≡ mid ++ (42 ∷ 47 ∷ rest) → HasNoEnd (mid ++ (42 ∷ [])) →
+    skip r.Comment before xs ≡ 47 ∷ rest
+comment_stops [] before xs rest parts none =
+    let star : before ≡ 42 = cc in
+    let all : xs ≡ 47 ∷ rest = cc in rw (star, all) refl
+comment_stops (m ∷ ms) before [] rest parts none =
+    let left : [] ≡ ms ++ (42 ∷ 47 ∷ rest) = cc in absurd (not_empty ms (47 ∷ rest) 42 left)
+comment_stops (m ∷ ms) before (c ∷ cs) rest parts none =
+    let first : m ≡ before = cc in
+    let left : c ∷ cs ≡ ms ++ (42 ∷ 47 ∷ rest) = cc in
+    let on : skip r.Comment c cs ≡ 47 ∷ rest = comment_stops ms c cs rest left (λ a b q. none (m ∷ a) b (ap (λ v. m ∷ v) q)) in
+    let other : ((before == 42) && (c == 47)) ≡ false =
+    false_from_ne_true ((before == 42) && (c == 47)) (λ t. let found = both_true (before == 42) (c == 47) t in
+      let end = begins_end ms c cs rest left (eqb-true c 47 found.1) in
+      none [] end.0 (ap (λ v. v ∷ (ms ++ (42 ∷ []))) (first ∙ eqb-true before 42 found.0) ∙ ap (λ v. 42 ∷ v) end.1)) in
+    rw other on
+
+-- a byte before that isn't `*` changes nothing
+no_end_behind : (body : List ℕ) → HasNoEnd (body ++ (42 ∷ [])) → HasNoEnd (0 ∷ (body ++ (42 ∷ [])))
+no_end_behind body none [] after q =
+    let e : 0 ≡ 42 = cc in
+    let bad : (0 == 42) ≡ true = ap (λ v. v == 42) e in absurd (cc)
+no_end_behind body none (x ∷ xs) after q = none xs after (cc)
+
+comment_body : (mid cs rest : List ℕ) → 0 ∷ cs ≡ mid ++ (42 ∷ 47 ∷ rest) → HasNoEnd (mid ++ (42 ∷ [])) →
+    (body : List ℕ) × (cs ≡ body ++ (42 ∷ 47 ∷ rest)) × HasNoEnd (body ++ (42 ∷ []))
+comment_body [] cs rest parts none =
+    let e : 0 ≡ 42 = cc in
+    let bad : (0 == 42) ≡ true = ap (λ v. v == 42) e in absurd (cc)
+comment_body (m ∷ body) cs rest parts none = (body, cc, λ a b q. none (m ∷ a) b (ap (λ v. m ∷ v) q))
+
+abbrev comment : List ℕ → List ℕ
+comment body = 47 ∷ 42 ∷ (body ++ (42 ∷ 47 ∷ []))
+
+comment_parts : (body rest : List ℕ) → comment body ++ rest ≡ 47 ∷ 42 ∷ (body ++ (42 ∷ 47 ∷ rest))
+comment_parts body rest = ap (λ v. 47 ∷ 42 ∷ v) (append_assoc body (42 ∷ 47 ∷ []) rest)
+
+pub comment_text : (fresh : Bool) (bytes : List ℕ) (x : Part) (rest : List ℕ) → Stands fresh bytes x rest → x.lead ≡ l.Comment → IsComment x.text
+comment_text fresh [] x rest h q = let bad : l.Sign ≡ l.Comment = sym h.begun ∙ q in absurd (cc)
+comment_text fresh (c ∷ []) x rest h q =
+    let first : ((c == 47) && (0 == 42)) ≡ true = comment_line _ _ ((c == 47) && (0 == 42)) _ _ _ _ _ _ (sym h.begun ∙ q) in
+    let second : (0 == 42) ≡ true = (both_true (c == 47) (0 == 42) first).1 in absurd (cc)
+comment_text fresh (c ∷ d ∷ cs) x rest h q =
+    let first : ((c == 47) && (d == 42)) ≡ true = comment_line _ _ ((c == 47) && (d == 42)) _ _ _ _ _ _ (sym h.begun ∙ q) in
+    let both = both_true (c == 47) (d == 42) first in
+    let slash : c ≡ 47 = eqb-true c 47 both.0 in
+    let star : d ≡ 42 = eqb-true d 42 both.1 in
+    let ended : skip r.Comment 0 cs ≡ 47 ∷ rest = subst (λ v. skip (row_of v) 0 (drop (opening v (c ∷ d ∷ cs)) (c ∷ d ∷ cs)) ≡ closing v ++ rest) q h.ended in
+    let so = comment_read 0 cs rest ended in
+    let body = comment_body so.0 cs rest so.1 so.2 in
+    let all : c ∷ d ∷ cs ≡ comment body.0 ++ rest =
+    ap (λ v. v ∷ d ∷ cs) slash ∙ ap (λ v. 47 ∷ v ∷ cs) star ∙ ap (λ v. 47 ∷ 42 ∷ v) body.1 ∙ sym (comment_parts body.0 rest) in
+    (body.0, text_so (c ∷ d ∷ cs) x.text (comment body.0) rest h.whole all, body.2)
+
+pub comment_stands : (fresh : Bool) (text rest : List ℕ) → IsComment text → Stands fresh (text ++ rest) (record { lead = l.Comment; text = text; effect = e.Silent }) rest
+comment_stands fresh text rest h =
+    let body : List ℕ = h.0 in
+    let there : Stands fresh (47 ∷ 42 ∷ (body ++ (42 ∷ 47 ∷ rest))) (record { lead = l.Comment; text = comment body; effect = e.Silent }) rest = record {
+      whole = sym (comment_parts body rest);
+      begun = refl;
+      some = omega arith;
+      within = omega arith;
+      ended = comment_stops (0 ∷ body) 0 (body ++ (42 ∷ 47 ∷ rest)) rest refl (no_end_behind body h.2);
+      said = refl;
+    } in
+    subst (λ v. Stands fresh (v ++ rest) (record { lead = l.Comment; text = v; effect = e.Silent }) rest) (sym h.1)
+    (subst (λ v. Stands fresh v (record { lead = l.Comment; text = comment body; effect = e.Silent }) rest) (sym (comment_parts body rest)) there)

@@ -7,7 +7,7 @@ ghost use Rattle.po_lex.specs.Brackets.{State, outset};
 ghost use Rattle.po_lex.specs.Balance.{Balanced, steps};
 ghost use Rattle.po_lex.specs.Pieces.{ArePieces, IsPiece, IsMisshapen};
 ghost use Rattle.po_lex.specs.Laws.{StandInOrder, Cover};
-ghost use Rattle.po_lex.specs.Texts.{IsLiteral};
+ghost use Rattle.po_lex.specs.Texts.{IsComment, IsLiteral};
 ghost use Rattle.po_lex.specs.declared.keeping.Mood.{Mood as Before};
 ghost use Rattle.po_lex.specs.declared.shape.Piece.{Piece as Range};
 
@@ -24,6 +24,13 @@ pub fn longest_part_stands()
 pub fn literals_are_those_of_c()
     ensures strings { (fresh : Bool) (bytes : Items ℕ) (x : Part) (rest : Items ℕ) → Stands fresh bytes x rest → x.lead ≡ Lead.Str → IsLiteral 34 x.text }
     ensures characters { (fresh : Bool) (bytes : Items ℕ) (x : Part) (rest : Items ℕ) → Stands fresh bytes x rest → x.lead ≡ Lead.Char → IsLiteral 39 x.text }
+{}
+
+/// A comment from `/*` on is one of C99 6.4.9; and where such a comment stands, whatever comes after it, it is the part
+/// that stands there.
+pub fn comments_are_those_of_c()
+    ensures only { (fresh : Bool) (bytes : Items ℕ) (x : Part) (rest : Items ℕ) → Stands fresh bytes x rest → x.lead ≡ Lead.Comment → IsComment x.text }
+    ensures all { (fresh : Bool) (text rest : Items ℕ) → IsComment text → Stands fresh (text ++ rest) (record { lead = Lead.Comment; text = text; effect = Effect.Silent }) rest }
 {}
 
 /// Where a literal of C99 stands, whatever comes after it, it is the part that stands there.

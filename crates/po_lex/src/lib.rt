@@ -22,7 +22,7 @@ pub use effect::Effect;
 pub use extension::Extension;
 pub use keeping::{Mood, kept};
 pub use laws::{
-    balanced_brackets, kept_are_selected, literals_are_those_of_c, literals_of_c_stand,
+    balanced_brackets, comments_are_those_of_c, kept_are_selected, literals_are_those_of_c, literals_of_c_stand,
     longest_part_stands, one_division, one_failure, one_kept_list, one_piece_list,
     one_shape_failure, one_token_list, pieces_are_balanced, pieces_cover, pieces_or_failure,
     texts_stand_in_order, tokens_are_placed, tokens_or_failure,
