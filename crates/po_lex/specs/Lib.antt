@@ -1,6 +1,6 @@
 pub mod Bytes
 pub mod Rows
-pub mod Leads
+pub mod PartKinds
 pub mod Directives
 pub mod Division
 pub mod Lexing
