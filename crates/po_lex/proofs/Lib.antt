@@ -15,3 +15,4 @@ mod Tables
 mod Words
 mod Texts
 mod Balance
+mod Markers

@@ -1,10 +1,10 @@
 -- The walk over a literal or a comment ends where the standard says.
 use Rattle.std.proofs.Common.{◌≡◌, ℕ, ◌+◌, Bool, true, false, cond, List, [], ◌∷◌, ◌++◌, length, drop, arith, sym, ap, refl, ◌∙◌, subst, append_assoc, length-append, ne_eqb}
-use Rattle.std.specs.Prelude.{◌≢◌, ◌==◌, ◌&&◌, ◌||◌, not, codes, slice_index}
+use Rattle.std.specs.Prelude.{◌≢◌, ◌==◌, ◌&&◌, ◌||◌, not}
 use Rattle.std.proofs.lemmas.Bool.{eqb-true, eqb-false, eq-eqb, false_from_ne_true}
 use Rattle.std.proofs.lemmas.List.{append_cancel_right}
 use Rattle.po_lex.specs.Rows.{skip}
-use Rattle.po_lex.specs.PartKinds.{part_kind_at, part_kind_of, opening, row_of, closing}
+use Rattle.po_lex.specs.PartKinds.{opening, row_of, closing}
 use Rattle.po_lex.specs.Division.{Part, Stands}
 use Rattle.po_lex.specs.Texts.{backslash, Characters, no_character, plain_character, escape, IsLiteral, HasNoEnd, IsComment}
 use Rattle.po_lex.specs.declared.row.Row.TheVariants as r
@@ -44,11 +44,11 @@ literal_read q line before (c ∷ cs) rest h =
       ] refl
     ] h
 
-same_first : (q : ℕ) → (q == q) ≡ true
+pub same_first : (q : ℕ) → (q == q) ≡ true
 same_first q = eq-eqb q q refl
 
 -- the walk over characters stops at the quote
-literal_stops : {q : ℕ} {chars : List ℕ} → q ≢ 92 → (before : ℕ) (rest : List ℕ) → (before == 92) ≡ false → Characters q chars →
+pub literal_stops : {q : ℕ} {chars : List ℕ} → q ≢ 92 → (before : ℕ) (rest : List ℕ) → (before == 92) ≡ false → Characters q chars →
     skip (r.Literal q) before (chars ++ (q ∷ rest)) ≡ q ∷ rest
 literal_stops other before rest at (no_character q) =
     rw (at, same_first q) (elim (q == 10) as (λ v. cond (not v && false) (skip (r.Literal q) q rest) (q ∷ rest) ≡ q ∷ rest) [ true ↦ refl | false ↦ refl ])
@@ -168,9 +168,13 @@ character_stands fresh text rest h =
     subst (λ v. Stands fresh (v ++ rest) (record { part_kind = l.Char; text = v; effect = e.Silent }) rest) (sym h.2)
     (subst (λ v. Stands fresh v (record { part_kind = l.Char; text = literal 39 chars; effect = e.Silent }) rest) (sym all) there)
 
-both_true : (a b : Bool) → (a && b) ≡ true → (a ≡ true) × (b ≡ true)
+pub both_true : (a b : Bool) → (a && b) ≡ true → (a ≡ true) × (b ≡ true)
 both_true true b h = (refl, h)
 both_true false b h = absurd (cc)
+
+-- two bytes that a test tells apart
+apart : (a b : ℕ) → (a == b) ≡ false → a ≡ b → ⊥
+apart a b h = eqb-false a b h
 
 one_end : HasNoEnd (42 ∷ [])
 one_end before after q = let n : 1 ≡ length before + length (42 ∷ 47 ∷ after) = ap length q ∙ length-append before (42 ∷ 47 ∷ after) in omega (arith, n)
@@ -178,8 +182,7 @@ one_end before after q = let n : 1 ≡ length before + length (42 ∷ 47 ∷ aft
 -- where the first byte isn't the one of `*/`, the bytes behind it don't begin with the other
 second_byte : (c : ℕ) (cs mid rest after : List ℕ) → c ∷ cs ≡ mid ++ (42 ∷ 47 ∷ rest) → mid ++ (42 ∷ []) ≡ 47 ∷ after → c ≡ 47
 second_byte c cs [] rest after p t =
-    let e : 42 ≡ 47 = cc in
-    let bad : (42 == 47) ≡ true = ap (λ v. v == 47) e in absurd (cc)
+    let e : 42 ≡ 47 = cc in absurd (apart 42 47 refl e)
 second_byte c cs (m ∷ ms) rest after p t =
     let a : c ≡ m = cc in
     let b : m ≡ 47 = cc in a ∙ b
@@ -213,8 +216,7 @@ not_empty (x ∷ xs) ys y q = absurd (cc)
 
 begins_end : (mid : List ℕ) (c : ℕ) (cs rest : List ℕ) → c ∷ cs ≡ mid ++ (42 ∷ 47 ∷ rest) → c ≡ 47 → (after : List ℕ) × (mid ++ (42 ∷ []) ≡ 47 ∷ after)
 begins_end [] c cs rest p q =
-    let e : c ≡ 42 = cc in
-    let bad : (42 == 47) ≡ true = ap (λ v. v == 47) (sym e ∙ q) in absurd (cc)
+    let e : c ≡ 42 = cc in absurd (apart 42 47 refl (sym e ∙ q))
 begins_end (m ∷ ms) c cs rest p q =
     let e : m ≡ c = cc in (ms ++ (42 ∷ []), ap (λ v. v ∷ (ms ++ (42 ∷ []))) (e ∙ q))
 
@@ -239,15 +241,13 @@ comment_stops (m ∷ ms) before (c ∷ cs) rest parts none =
 -- a byte before that isn't `*` changes nothing
 no_end_behind : (body : List ℕ) → HasNoEnd (body ++ (42 ∷ [])) → HasNoEnd (0 ∷ (body ++ (42 ∷ [])))
 no_end_behind body none [] after q =
-    let e : 0 ≡ 42 = cc in
-    let bad : (0 == 42) ≡ true = ap (λ v. v == 42) e in absurd (cc)
+    let e : 0 ≡ 42 = cc in absurd (apart 0 42 refl e)
 no_end_behind body none (x ∷ xs) after q = none xs after (cc)
 
 comment_body : (mid cs rest : List ℕ) → 0 ∷ cs ≡ mid ++ (42 ∷ 47 ∷ rest) → HasNoEnd (mid ++ (42 ∷ [])) →
     (body : List ℕ) × (cs ≡ body ++ (42 ∷ 47 ∷ rest)) × HasNoEnd (body ++ (42 ∷ []))
 comment_body [] cs rest parts none =
-    let e : 0 ≡ 42 = cc in
-    let bad : (0 == 42) ≡ true = ap (λ v. v == 42) e in absurd (cc)
+    let e : 0 ≡ 42 = cc in absurd (apart 0 42 refl e)
 comment_body (m ∷ body) cs rest parts none = (body, cc, λ a b q. none (m ∷ a) b (ap (λ v. m ∷ v) q))
 
 abbrev comment : List ℕ → List ℕ

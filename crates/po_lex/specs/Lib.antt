@@ -11,4 +11,5 @@ pub mod Keeping
 pub mod Closings
 pub mod Laws
 pub mod Texts
+pub mod Markers
 pub mod Balance
