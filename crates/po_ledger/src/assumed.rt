@@ -1,15 +1,16 @@
 ghost use Rattle.std.specs.Prelude.{◌≡◌, ◌++◌, ◌↔◌, ◌<◌, [], ◌∷◌, map, IsTrue, IfOk, OnOk, OnErr};
 ghost use Rattle.std.specs.List.{Contains};
 ghost use Rattle.indexmap.specs.IndexSet.{spare};
+ghost use Rattle.po_base.specs.declared.numbers.FunNo.{FunNo};
+ghost use Rattle.po_base.specs.declared.numbers.NodeNo.{NodeNo};
 ghost use Rattle.po_core.specs.Core.{AreApart};
 ghost use Rattle.po_core.specs.declared.obl.Obl.{Obl};
 ghost use Rattle.po_ledger.specs.Parts.{AddsEach, AddsItem, AreCallSites, HasKey, supports_of};
 ghost use Rattle.po_marks.specs.Waiting.{AreWaiting, KeepsHolds};
 
-use crate::call_sites::call_sites;
-use crate::per_function::PerFunction;
+use crate::call_sites::{CallSites, call_sites_at, call_sites_place};
 use indexmap::IndexSet;
-use po_base::{FunNo, List, Memory, NodeNo};
+use po_base::{FunNo, Memory};
 use po_core::Rulebook;
 use po_marks::{Marks, add_supports};
 use std::alloc::Global;
@@ -25,7 +26,7 @@ pub(crate) fn assume<R: Rulebook>(
     book: &R,
     marks: &mut Marks<R::Pred, R::Rule>,
     assumed: &mut Assumptions<R::Pred>,
-    kept: &mut PerFunction<List<(FunNo, NodeNo)>>,
+    kept: &mut CallSites,
     f: FunNo,
     q: R::Pred,
 ) -> Result<(), Memory>
@@ -47,7 +48,8 @@ pub(crate) fn assume<R: Rulebook>(
         return Ok(());
     }
     reserve_one(assumed)?;
-    let sites = call_sites(alloc, book, kept, f)?;
+    let at = call_sites_place(alloc, book, kept, f)?;
+    let sites = call_sites_at(book, kept, f, at);
     add_supports(book, marks, sites.as_slice(), q)?;
     insert_new(book, assumed, f, q);
     Ok(())

@@ -1,4 +1,4 @@
-ghost use Rattle.std.specs.Prelude.{◌≡◌, ◌<◌, Some, slice_get, IfOk};
+ghost use Rattle.std.specs.Prelude.{◌≡◌, ◌<◌, List, Some, slice_get, IfOk};
 ghost use Rattle.po_base.specs.declared.numbers.FunNo.{FunNo};
 ghost use Rattle.po_base.specs.declared.numbers.NodeNo.{NodeNo};
 ghost use Rattle.po_ledger.specs.Made.{HasTable};
@@ -10,26 +10,25 @@ use po_core::Rulebook;
 use std::alloc::Global;
 
 /// The call sites of functions that were asked for.
-type CallSites = PerFunction<List<(FunNo, NodeNo)>>;
+pub(crate) type CallSites = PerFunction<List<(FunNo, NodeNo)>>;
 
-/// A function's call sites, for which the rulebook is asked once.
-pub(crate) fn call_sites<'k, R: Rulebook>(
-    alloc: Global,
+/// The call sites of a function at its place.
+pub(crate) fn call_sites_at<'k, R: Rulebook>(
     book: &R,
-    kept: &'k mut CallSites,
+    kept: &'k CallSites,
     f: FunNo,
-) -> Result<&'k List<(FunNo, NodeNo)>, Memory>
-    requires there { f.0 < (R.meaning book.now).functions }
-    requires right { AreCallSites (R.meaning book.now) kept.old }
-    ensures right { AreCallSites (R.meaning book.now) kept.new }
-    ensures sites { IfOk result (λ sites. sites.now ≡ (R.meaning book.now).call_sites f) }
+    at: usize,
+) -> &'k List<(FunNo, NodeNo)>
+    requires right { AreCallSites (R.meaning book.now) kept.now }
+    requires found { (sites : List (FunNo × NodeNo)) × (slice_get kept.now at ≡ Some (f, sites)) }
+    ensures { result.now ≡ (R.meaning book.now).call_sites f }
 {
-    let at = place_of(alloc, book, kept, f)?;
-    Ok(kept.value(at))
+    let _book = book;
+    kept.value(at)
 }
 
-/// The place of a function's call sites, which are asked for where they aren't kept.
-fn place_of<R: Rulebook>(
+/// The place of a function's call sites, for which the rulebook is asked where they aren't kept.
+pub(crate) fn call_sites_place<R: Rulebook>(
     alloc: Global,
     book: &R,
     kept: &mut CallSites,
@@ -42,12 +41,12 @@ fn place_of<R: Rulebook>(
 {
     match kept.place(f) {
         Some(at) => Ok(at),
-        None => ask(alloc, book, kept, f),
+        None => ask_call_sites(alloc, book, kept, f),
     }
 }
 
 /// Asks for a function's call sites, which aren't kept, and tells their place.
-fn ask<R: Rulebook>(
+fn ask_call_sites<R: Rulebook>(
     alloc: Global,
     book: &R,
     kept: &mut CallSites,

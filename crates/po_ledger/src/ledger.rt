@@ -10,6 +10,7 @@ ghost use Rattle.po_ledger.specs.Shelves.{AnswersTables};
 ghost use Rattle.po_ledger.specs.View.{Fits, IsLedger};
 
 use crate::assumed::{Assumptions, assume};
+use crate::call_sites::CallSites;
 use crate::fitting::is_hand_of;
 use crate::hands::{free_hand, hand_at, is_held, no_hands, one_more, set_hand};
 use crate::log::{Log, append, into_events, make_room, no_events, take_room};
@@ -20,7 +21,7 @@ use crate::report::{ascending_assumptions, ascending_lines, is_some_left};
 use crate::shelves::{clear_shelf, empty_shelves, swap_shelf};
 use crate::ticket::Ticket;
 use indexmap::IndexSet;
-use po_base::{FileNo, FunNo, List, Memory, NodeNo};
+use po_base::{FileNo, Memory};
 use po_core::{
     Event, Hand, Journal, Report, Rulebook, Verdict, legal_lists_are_orderly,
     quiet_lists_are_least,
@@ -44,7 +45,7 @@ pub struct Ledger<'r, R: Rulebook, J: Naming<R::Pred, R::Rule, R::Table>> {
     hands: Vec<Option<Hand<R::Pred>>>,
     held: u32,
     assumed: Assumptions<R::Pred>,
-    call_sites: PerFunction<List<(FunNo, NodeNo)>>,
+    call_sites: CallSites,
     shelves: Vec<PerFunction<R::Table>>,
     journal: Log<R::Pred, R::Rule>,
     named: PhantomData<J>,
@@ -152,7 +153,8 @@ impl<'r, R: Rulebook, J: Naming<R::Pred, R::Rule, R::Table>> Ledger<'r, R, J> {
         ensures err { OnErr result (self.new ≡ self.old) }
         ensures tables { IfOk result (AnswersTables self.old self.new) }
     {
-        match self.take_first(alloc, worker)? {
+        let first = self.take_first(alloc, worker)?;
+        match first {
             Some(ticket) => Ok(Next::Ticket(ticket)),
             None => {
                 if self.some_held() {

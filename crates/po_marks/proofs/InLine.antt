@@ -38,7 +38,7 @@ has_below (suc n) f l = elim (cases_eq f.0 n) [
   | inr ne ↦ inr (has_below n f (let other : f.0 ≡ n → ⊥ = ne in omega arith))
 ]
 
-few_below : (line : List FileNo) (n : ℕ) → AreApart line → ((f : FileNo) → Contains line f → f.0 < n) → length line ≤ n
+pub few_below : (line : List FileNo) (n : ℕ) → AreApart line → ((f : FileNo) → Contains line f → f.0 < n) → length line ≤ n
 few_below line n a below =
     let few = apart_within line (files_below n) a (λ f h. has_below n f (below f (contains line f h))) in
     let all = length-files_below n in

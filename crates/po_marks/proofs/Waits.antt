@@ -24,7 +24,7 @@ use Rattle.po_core.specs.declared.obl.Verdict.{Verdict}
 use Rattle.po_marks.specs.Known.{HasKey, AreRemarked}
 use Rattle.po_marks.specs.Waiting.{AddsNew, AreWaiting, CanBeTaken, KeepsHolds, Marking, NoneIsHeld, SetsHold, TakesFrom, all_of, free, is_ready, lengthened, line_up, queue_len, waiting_count}
 use Rattle.po_marks.specs.declared.queue.Queue.{Queue}
-use Rattle.po_marks.proofs.Apart.{apart_append, apart_flat_map, from_flat_map}
+use Rattle.po_marks.proofs.Apart.{apart_append, apart_flat_map, from_flat_map, in_flat_map}
 use Rattle.po_marks.proofs.InLine.{held_not_ready, lined_by, lined_rest, once_by, once_rest, ready_longer, room_in_line, same_file, same_number}
 use Rattle.po_marks.proofs.Marked.{apart_push, mark_of_key, one_mark}
 use Rattle.po_marks.proofs.Places.{get_set_same, set_cases}
@@ -159,6 +159,10 @@ module _ {P N T : Type 0} (b : Book P N T) where
     pub all_untaken : (o : Obl P) → Contains all_waiting o → Contains m.items (o, Untaken)
     unfolding all_waiting
     all_untaken o h = let r = from_flat_map all_of m.queues o h in (((file_at r.place r.item r.at).all o).0 r.in_item).0
+
+    pub all_there : (file : FileNo) (q : Queue P) (o : Obl P) → slice_get m.queues file.0 ≡ Some q → Contains (all_of q) o → Contains all_waiting o
+    unfolding all_waiting
+    all_there file q o at h = in_flat_map all_of m.queues file.0 q o at h
 
     pub all_count : length all_waiting ≡ waiting_count m.queues
     unfolding all_waiting
