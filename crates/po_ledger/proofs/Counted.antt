@@ -66,8 +66,7 @@ module _ {X : Type 0} (Q R : X → Type 0) where
   counts_less x n c here same =
       let d = dropped c.0 x c.1 (has c.0 x (c.3 x here)) in
       let long : length c.0 ≡ n = c.4 in
-      let short : length c.0 ≡ suc (length d.rest) = d.shorter in
-      (
+      let short : length c.0 ≡ suc (length d.rest) = d.shorter in (
         length d.rest,
         (
           d.rest,

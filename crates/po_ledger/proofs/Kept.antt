@@ -87,15 +87,15 @@ module _ {P N T : Type 0} (b : Book P N T) (of_book : Book P N T) (l m : LedgerV
 
   cleared_right : (later : List (List (FunNo × T))) (file : FileNo) → later ≡ set shelves file.0 [] → (at : ℕ) (tables : List (FunNo × T)) → slice_get later at ≡ Some tables → AreTables b tables
   cleared_right later file is at tables h = elim (cases_eq at file.0) [
-        | inl q ↦ (λ f table c. absurd (
-            let there : at < length later = slice_get_within later at tables h in
-            let long : length later ≡ length shelves = ap length is ∙ length-set shelves file.0 [] in
-            let put : slice_get later at ≡ Some [] = ap (λ (z : List (List (FunNo × T))). slice_get z at) is ∙ (ap (λ (j : ℕ). slice_get (set shelves file.0 []) j) q ∙ get_set_same shelves file.0 [] (omega (arith, q))) in
-            let both : ◌≡◌ {A = Option (List (FunNo × T))} (Some []) (Some tables) = sym put ∙ h in
-            let none : [] ≡ tables = cc in
-            has [] (f, table) (subst (λ (z : List (FunNo × T)). Contains z (f, table)) (sym none) c)))
-        | inr ne ↦ k.shelved at tables (sym (get_set_other shelves file.0 at [] ne) ∙ (ap (λ (z : List (List (FunNo × T))). slice_get z at) (sym is) ∙ h))
-      ]
+    | inl q ↦ (λ f table c. absurd (
+        let there : at < length later = slice_get_within later at tables h in
+        let long : length later ≡ length shelves = ap length is ∙ length-set shelves file.0 [] in
+        let put : slice_get later at ≡ Some [] = ap (λ (z : List (List (FunNo × T))). slice_get z at) is ∙ (ap (λ (j : ℕ). slice_get (set shelves file.0 []) j) q ∙ get_set_same shelves file.0 [] (omega (arith, q))) in
+        let both : ◌≡◌ {A = Option (List (FunNo × T))} (Some []) (Some tables) = sym put ∙ h in
+        let none : [] ≡ tables = cc in
+        has [] (f, table) (subst (λ (z : List (FunNo × T)). Contains z (f, table)) (sym none) c)))
+    | inr ne ↦ k.shelved at tables (sym (get_set_other shelves file.0 at [] ne) ∙ (ap (λ (z : List (List (FunNo × T))). slice_get z at) (sym is) ∙ h))
+  ]
 
   -- taking
   unfoldable pub take_takes : (worker : ℕ) (file : FileNo) (items : List (Obl P)) → file.0 < length l.state.hands → AreRemarked (λ o. file_of_obl b o ≡ file) Untaken Taken l.state.marks m.state.marks → m.state.hands ≡ set l.state.hands file.0 (Some (record { worker = worker; items = items })) → m.state.assumed ≡ l.state.assumed → TakesFrom b l.state.marks file items → Takes b worker file l.state m.state

@@ -74,9 +74,9 @@ module _ {P N T : Type 0} (b of_book : Book P N T) (same : of_book ≡ b) where
             elim x.2 [
               | inl y ↦ (λ t. subst (λ (z : List (Option (Hand P))). HandAt z f) (sym now) (held_now hands file.0 hand f y.0 within), λ h. y.1)
               | inr y ↦ (
-                  λ t. subst (λ (z : List (Option (Hand P))). HandAt z f) (sym now) (held_still hands file.0 (Some hand) f y.0 ((k.holds f x.0 x.1).0 (sym y.1 ∙ t))),
-                  λ h. y.1 ∙ (k.holds f x.0 x.1).1 (elim (held_cases hands file.0 (Some hand) f (subst (λ (z : List (Option (Hand P))). HandAt z f) now h)) [ inl z ↦ absurd (y.0 z.0) | inr z ↦ z.1 ]),
-                )
+                λ t. subst (λ (z : List (Option (Hand P))). HandAt z f) (sym now) (held_still hands file.0 (Some hand) f y.0 ((k.holds f x.0 x.1).0 (sym y.1 ∙ t))),
+                λ h. y.1 ∙ (k.holds f x.0 x.1).1 (elim (held_cases hands file.0 (Some hand) f (subst (λ (z : List (Option (Hand P))). HandAt z f) now h)) [ inl z ↦ absurd (y.0 z.0) | inr z ↦ z.1 ]),
+              )
             ];
       }
 
@@ -88,13 +88,13 @@ module _ {P N T : Type 0} (b of_book : Book P N T) (same : of_book ≡ b) where
             let x = sets f.0 q at in
             elim x.2 [
               | inl y ↦ (
-                  λ t. absurd (false≢true (sym y.1 ∙ t)),
-                  λ h. absurd (elim (held_cases hands file.0 None f (subst (λ (z : List (Option (Hand P))). HandAt z f) now h)) [ inl z ↦ not_none z.1.0 z.1.1 | inr z ↦ z.0 y.0 ]),
-                )
+                λ t. absurd (false≢true (sym y.1 ∙ t)),
+                λ h. absurd (elim (held_cases hands file.0 None f (subst (λ (z : List (Option (Hand P))). HandAt z f) now h)) [ inl z ↦ not_none z.1.0 z.1.1 | inr z ↦ z.0 y.0 ]),
+              )
               | inr y ↦ (
-                  λ t. subst (λ (z : List (Option (Hand P))). HandAt z f) (sym now) (held_still hands file.0 None f y.0 ((k.holds f x.0 x.1).0 (sym y.1 ∙ t))),
-                  λ h. y.1 ∙ (k.holds f x.0 x.1).1 (elim (held_cases hands file.0 None f (subst (λ (z : List (Option (Hand P))). HandAt z f) now h)) [ inl z ↦ absurd (y.0 z.0) | inr z ↦ z.1 ]),
-                )
+                λ t. subst (λ (z : List (Option (Hand P))). HandAt z f) (sym now) (held_still hands file.0 None f y.0 ((k.holds f x.0 x.1).0 (sym y.1 ∙ t))),
+                λ h. y.1 ∙ (k.holds f x.0 x.1).1 (elim (held_cases hands file.0 None f (subst (λ (z : List (Option (Hand P))). HandAt z f) now h)) [ inl z ↦ absurd (y.0 z.0) | inr z ↦ z.1 ]),
+              )
             ];
       }
 

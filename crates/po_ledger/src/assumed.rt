@@ -56,12 +56,7 @@ pub(crate) fn assume<R: Rulebook>(
 }
 
 /// Whether a predicate of a function is assumed, in constant time on the average.
-fn is_assumed<R: Rulebook>(
-    book: &R,
-    assumed: &Assumptions<R::Pred>,
-    f: FunNo,
-    q: R::Pred,
-) -> bool
+fn is_assumed<R: Rulebook>(book: &R, assumed: &Assumptions<R::Pred>, f: FunNo, q: R::Pred) -> bool
     ensures { IsTrue result ↔ Contains assumed.now.keys (f, q) }
 {
     let _book = book;
@@ -78,12 +73,7 @@ fn reserve_one<P: Copy + Eq + Hash>(assumed: &mut Assumptions<P>) -> Result<(), 
 }
 
 /// Puts a new assumption to the end, where there is room for it. It takes no memory.
-fn insert_new<R: Rulebook>(
-    book: &R,
-    assumed: &mut Assumptions<R::Pred>,
-    f: FunNo,
-    q: R::Pred,
-)
+fn insert_new<R: Rulebook>(book: &R, assumed: &mut Assumptions<R::Pred>, f: FunNo, q: R::Pred)
     requires new { ¬ Contains assumed.old.keys (f, q) }
     requires room { 0 < spare assumed.old }
     ensures { assumed.new.keys ≡ assumed.old.keys ++ (f, q) ∷ [] }

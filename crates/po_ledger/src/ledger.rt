@@ -23,8 +23,7 @@ use crate::ticket::Ticket;
 use indexmap::IndexSet;
 use po_base::{FileNo, Memory};
 use po_core::{
-    Event, Hand, Journal, Report, Rulebook, Verdict, legal_lists_are_orderly,
-    quiet_lists_are_least,
+    Event, Hand, Journal, Report, Rulebook, Verdict, legal_lists_are_orderly, quiet_lists_are_least,
 };
 use po_marks::{Drawn, Entries, Marks, draw, first_marks, free, put_back, room_to_draw, settle};
 use std::alloc::Global;

@@ -6,7 +6,10 @@ use std::alloc::Global;
 use std::mem;
 
 /// A place for each file, for the tables of its functions.
-pub(crate) fn empty_shelves<T: Drop>(alloc: Global, files: u32) -> Result<Vec<PerFunction<T>>, Memory>
+pub(crate) fn empty_shelves<T: Drop>(
+    alloc: Global,
+    files: u32,
+) -> Result<Vec<PerFunction<T>>, Memory>
     ensures { IfOk result (λ shelves. shelves.items ≡ replicate files []) }
 {
     let mut shelves = Vec::new(alloc);

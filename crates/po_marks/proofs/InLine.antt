@@ -106,9 +106,9 @@ module _ {P : Type 0} (queues : List (Queue P)) (line : List FileNo) (file : Fil
   lined_by false true b n up f = elim (cases_eq f.0 file.0) [
     | inl same ↦ (λ h. (r, there_now f same, n), λ h. subst (λ (z : FileNo). Contains (line ++ file ∷ []) z) (sym (same_file f file same)) (Contains-push line file))
     | inr ne ↦ (
-        λ h. (other_lined f ne).0 (elim (Contains-push_cases line file f h) [ inl x ↦ x | inr x ↦ absurd (ne (sym (same_number file f x))) ]),
-        λ h. Contains-append_left line (file ∷ []) f ((other_lined f ne).1 h),
-      )
+      λ h. (other_lined f ne).0 (elim (Contains-push_cases line file f h) [ inl x ↦ x | inr x ↦ absurd (ne (sym (same_number file f x))) ]),
+      λ h. Contains-append_left line (file ∷ []) f ((other_lined f ne).1 h),
+    )
   ]
   lined_by false false b n up f = elim (cases_eq f.0 file.0) [
     | inl same ↦ (λ h. absurd (clash q (ready_before f same ((lined f).0 h)) b), λ h. absurd (clash r (ready_now f same h) n))
@@ -140,9 +140,9 @@ module _ {P : Type 0} (queues : List (Queue P)) (line : List FileNo) (file : Fil
       elim (cases_eq f.0 file.0) [
         | inl same ↦ (λ h. absurd (first (subst (λ (z : FileNo). Contains rest z) (same_file f file same) h)), λ h. absurd (clash r (ready_now f same h) b))
         | inr ne ↦ (
-            λ h. (other_lined f ne).0 (subst (λ (z : List FileNo). Contains z f) (sym is) (contains (file ∷ rest) f (inr (has rest f h)))),
-            λ h. elim (has (file ∷ rest) f (subst (λ (z : List FileNo). Contains z f) is ((other_lined f ne).1 h))) [ inl x ↦ absurd (ne (sym (same_number file f x))) | inr x ↦ contains rest f x ],
-          )
+          λ h. (other_lined f ne).0 (subst (λ (z : List FileNo). Contains z f) (sym is) (contains (file ∷ rest) f (inr (has rest f h)))),
+          λ h. elim (has (file ∷ rest) f (subst (λ (z : List FileNo). Contains z f) is ((other_lined f ne).1 h))) [ inl x ↦ absurd (ne (sym (same_number file f x))) | inr x ↦ contains rest f x ],
+        )
       ]
 
   pub once_rest : (rest : List FileNo) → line ≡ file ∷ rest → AreApart rest

@@ -152,9 +152,9 @@ module _ {P N T : Type 0} (b : Book P N T) where
     pub all_apart : AreApart all_waiting
     unfolding all_waiting
     all_apart = apart_flat_map all_of m.queues (λ i q at. (file_at i q at).once) (λ i j q r o p s h k.
-      let here = ((file_at i q p).all o).0 h in
-      let there = ((file_at j r s).all o).0 k in
-      same_number (record { 0 = i }) (record { 0 = j }) (sym here.1 ∙ there.1))
+        let here = ((file_at i q p).all o).0 h in
+        let there = ((file_at j r s).all o).0 k in
+        same_number (record { 0 = i }) (record { 0 = j }) (sym here.1 ∙ there.1))
 
     pub all_untaken : (o : Obl P) → Contains all_waiting o → Contains m.items (o, Untaken)
     unfolding all_waiting

@@ -26,10 +26,12 @@ fn only_taken<R: Rulebook>(
     ensures once { AreApart items → AreApart result }
 {
     let mut taken = items.into_vec();
-    taken.retain(|o|
-        requires { AreApart (map (λ e. e.0) known.now.entries) }
-        ensures { IsTrue result ↔ Contains known.entry.now.entries (o.now, Taken) }
-    { is_in_hand(book, known, o) });
+    taken.retain(
+        |o|
+            requires { AreApart (map (λ e. e.0) known.now.entries) }
+            ensures { IsTrue result ↔ Contains known.entry.now.entries (o.now, Taken) }
+        { is_in_hand(book, known, o) },
+    );
     List::from_vec(taken)
 }
 
