@@ -1,6 +1,6 @@
 use Rattle.std.proofs.Common.{◌≡◌, ◌≤◌, length, take}
 use Rattle.po_lex.specs.Division.{freshly}
-use Rattle.po_lex.proofs.place.freshly.Given as goal
+use Rattle.po_lex.proofs.position.freshly.Given as goal
 
 abbrev pub invariant-loop-end : goal.invariant-loop-end
 invariant-loop-end l = record {

@@ -1,7 +1,7 @@
 use Rattle.std.proofs.Common.{◌≡◌, ◌-◌, true, false, ◌∙◌, sym, refl, arith, get_or, ℕ, ne_eqb}
 use Rattle.po_lex.specs.Bytes.{is_gap}
 use Rattle.po_lex.proofs.Lines.{freshly_at}
-use Rattle.po_lex.proofs.place.freshly.Goals as goal
+use Rattle.po_lex.proofs.position.freshly.Goals as goal
 
 pub returns-then-byte-eq10 : goal.returns-then-byte-eq10
 returns-then-byte-eq10 c =

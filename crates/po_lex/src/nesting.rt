@@ -17,7 +17,7 @@ pub struct Open {
 
 /// What a walk over tokens has come to: the brackets that are open, the innermost last.
 #[derive(Debug, Drop)]
-pub(crate) struct Walk {
+pub(crate) struct Nesting {
     pub open: List<Open>,
     /// Whether a `{` here would stand first in its piece or follow a `)`.
     pub begins: bool,
@@ -80,12 +80,12 @@ pub(crate) fn is_closer(byte: u8) -> bool
     byte == b')' || byte == b']' || byte == b'}'
 }
 
-impl Walk {
+impl Nesting {
     /// The walk before the first token of a piece.
-    pub(crate) fn new(alloc: Global) -> Walk
+    pub(crate) fn new(alloc: Global) -> Nesting
         ensures { state_of result ≡ outset }
     {
-        Walk {
+        Nesting {
             open: List::new(alloc),
             begins: true,
         }

@@ -5,7 +5,7 @@ use Rattle.std.proofs.lemmas.List.{drop_more, drop-drop, take-append-drop, take_
 use Rattle.po_base.specs.declared.token.Token.{Token}
 use Rattle.po_lex.specs.Brackets.{State, outset, step, ends, mark}
 use Rattle.po_lex.specs.Pieces.{goes, IsPiece, Divided, IsMisshapen}
-use Rattle.po_lex.specs.declared.walk.Open.{Open}
+use Rattle.po_lex.specs.declared.nesting.Open.{Open}
 use Rattle.po_lex.specs.declared.shape.Piece.{Piece}
 
 -- one more token of a part

@@ -7,7 +7,7 @@ use crate::effect::Effect;
 
 /// Where a reader stands in a file, and what the line markers before it said.
 #[derive(Clone, Copy, Debug)]
-pub struct Place {
+pub struct Position {
     /// Whether only spaces and tabs stand before it on its line.
     pub fresh: bool,
     /// The number of the line after this one, as the line markers count.
@@ -37,22 +37,22 @@ fn freshly(fresh: bool, text: &[u8]) -> bool
     fresh
 }
 
-impl Place {
+impl Position {
     /// The place behind a blank of this byte. Constant time.
-    pub(crate) fn past_blank(&self, byte: u8) -> Place
+    pub(crate) fn past_blank(&self, byte: u8) -> Position
         requires own { self.now.own ≤ 2 ^ 25 }
         requires next { self.now.next ≤ 2 ^ 31 + 2 ^ 25 }
         ensures { result ≡ moved self.now (byte ∷ []) Effect.Silent }
     {
         if byte == b'\n' {
-            return Place {
+            return Position {
                 fresh: true,
                 next: self.next + 1,
                 own: self.own + 1,
                 named: self.named,
             };
         }
-        Place {
+        Position {
             fresh: is_gap(byte) && self.fresh,
             next: self.next,
             own: self.own,
@@ -62,7 +62,7 @@ impl Place {
 
     /// The place behind a part with these bytes, in which so many lines end, and which says this. Constant time, but for the
     /// spaces and tabs at its end.
-    pub(crate) fn moved(&self, text: &[u8], lines: u32, effect: &Effect) -> Place
+    pub(crate) fn moved(&self, text: &[u8], lines: u32, effect: &Effect) -> Position
         requires short { length text.now ≤ 2 ^ 24 }
         requires lines { lines ≡ newlines text.now }
         requires own { self.now.own ≤ 2 ^ 25 }
@@ -73,19 +73,19 @@ impl Place {
         let fresh = freshly(self.fresh, text);
         let own = self.own + lines;
         match effect {
-            Effect::Silent => Place {
+            Effect::Silent => Position {
                 fresh,
                 next: self.next + lines,
                 own,
                 named: self.named,
             },
-            Effect::Line(number) => Place {
+            Effect::Line(number) => Position {
                 fresh,
                 next: *number + lines,
                 own,
                 named: self.named,
             },
-            Effect::Named(number, _) => Place {
+            Effect::Named(number, _) => Position {
                 fresh,
                 next: *number + lines,
                 own,
