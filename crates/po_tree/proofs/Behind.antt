@@ -1,15 +1,15 @@
 -- The names in force behind a declaration, from what was gathered of it.
-use Rattle.std.proofs.Common.{◌≡◌, ℕ, Bool, true, false, List, [], ◌∷◌, sym, subst, refl, ap, ◌∙◌, ◌⊎◌, inl, inr, ◌↔◌}
+use Rattle.std.proofs.Common.{◌≡◌, ℕ, Bool, true, false, List, [], ◌∷◌, sym, subst, refl, ◌∙◌, inl, inr, ◌↔◌}
 use Rattle.std.specs.Prelude.{Contains, MatchBool, IsTrue, Option, Some, None}
 use Rattle.po_tree.specs.declared.expression.Specifier.{Specifier}
 use Rattle.po_tree.specs.declared.expression.Declarator.{Declarator}
 use Rattle.po_tree.specs.declared.declaration.Init.{Init}
 use Rattle.po_tree.specs.declared.declaration.Decl.{Decl}
 use Rattle.po_tree.specs.declared.names.Declared.{Declared}
-use Rattle.po_tree.specs.NameSets.{AreSame, Adds, Hides}
+use Rattle.po_tree.specs.NameSets.{Adds, Hides}
 use Rattle.po_tree.specs.InForce.{InForce}
 use Rattle.po_tree.specs.Declarations.{IsTypedef}
-use Rattle.po_tree.specs.Scope.{AreBehind, AreBehindWords, IsTypeBehindWords, HidesTypes, AddsTypes, AddsTags, Enumerates, Tags, Somewhere, HasWord}
+use Rattle.po_tree.specs.Scope.{AreBehind, AreBehindWords, IsTypeBehindWords, HidesTypes, AddsTypes, AddsTags, Enumerates, Somewhere, HasWord}
 use Rattle.po_tree.specs.Gathering.{AddsSpecs}
 use Rattle.po_tree.proofs.Sets.{none_contained, is_first, first_or_later, decide_in}
 

@@ -1,7 +1,6 @@
 -- Well-formedness asks only which names are in force, and not in which order they stand in the list, or how often.
-use Rattle.std.proofs.Common.{◌≡◌, ℕ, Bool, true, false, List, [], ◌∷◌, refl, ◌⊎◌, inl, inr, ◌↔◌, arith}
-use Rattle.std.specs.Prelude.{Contains, Option, Some, None}
-use Rattle.po_tree.specs.declared.operator.Infix.{Infix}
+use Rattle.std.proofs.Common.{ℕ, Bool, List, ◌∷◌, inl, inr, arith}
+use Rattle.std.specs.Prelude.{Contains, Option}
 use Rattle.po_tree.specs.declared.expression.Exp.{Exp}
 use Rattle.po_tree.specs.declared.expression.Specifier.{Specifier}
 use Rattle.po_tree.specs.declared.expression.Suffix.{Suffix}
@@ -22,7 +21,7 @@ use Rattle.po_tree.specs.Declarations as de
 use Rattle.po_tree.specs.Declarations.{without, IsDeclared, Specs, Enumerators, Members, AllDeclarators, IsDeclarator, IsSuffix, Params, IsParameter, IsInit, AllInits, Declares, Parts, Declared, IsPiece, IsDeclaration}
 use Rattle.po_tree.specs.Statements as st
 use Rattle.po_tree.specs.Statements.{IsOptional, IsFirst, IsStatement, AreItems, IsFunction, IsDefinition}
-use Rattle.po_tree.proofs.Sets.{first_or_later, is_first, is_later}
+use Rattle.po_tree.proofs.Sets.{first_or_later, is_later}
 use Rattle.po_tree.proofs.Threaded.{without_to, without_from}
 
 -- the same names but one, and with one more

@@ -1,5 +1,5 @@
 -- What stands outside the scopes that are open, behind a change.
-use Rattle.std.proofs.Common.{◌≡◌, ℕ, List, [], ◌∷◌, ◌++◌, ap, sym, ◌∙◌, refl, subst}
+use Rattle.std.proofs.Common.{◌≡◌, ℕ, List, [], ◌∷◌, ◌++◌, ap, ◌∙◌, refl, subst}
 use Rattle.std.specs.Prelude.{Contains, reverse}
 use Rattle.std.proofs.lemmas.List.{reverse-append}
 use Rattle.po_tree.specs.declared.names.Change.{Change}
