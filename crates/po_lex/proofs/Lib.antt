@@ -11,3 +11,7 @@ mod Longest
 mod Lines
 mod Selected
 mod Placed
+mod Tables
+mod Words
+mod Texts
+mod Balance

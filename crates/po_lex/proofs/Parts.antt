@@ -1,5 +1,5 @@
 -- At most one part stands at a place.
-use Rattle.std.proofs.Common.{◌≡◌, ℕ, Bool, List, ◌++◌, take, drop, sym, ap, ◌∙◌, subst}
+use Rattle.std.proofs.Common.{◌≡◌, ℕ, ◌<◌, ◌≤◌, Bool, List, ◌++◌, length, take, drop, sym, ap, ◌∙◌, subst}
 use Rattle.std.specs.Prelude.{Some}
 use Rattle.std.proofs.lemmas.List.{append_cancel_left, append_cancel_right, take-append-drop}
 use Rattle.po_lex.specs.Rows.{skip}
@@ -17,6 +17,15 @@ same_rest fresh bytes left lead part rest q ended h =
     let there : skip (row_of lead) 0 (drop (opening lead bytes) bytes) ≡ closing lead ++ rest =
     subst (λ v. skip (row_of v) 0 (drop (opening v bytes) bytes) ≡ closing v ++ rest) same h.ended in
     append_cancel_left (closing lead) rest left (sym there ∙ ended)
+
+-- where the part that begins there doesn't end, no part stands
+pub none_ends : (fresh : Bool) (bytes : List ℕ) (lead : Lead) → lead ≡ lead_of bytes →
+    ((rest : List ℕ) → 0 < opening lead bytes → opening lead bytes ≤ length bytes → skip (row_of lead) 0 (drop (opening lead bytes) bytes) ≡ closing lead ++ rest → ⊥) →
+    NoneStands fresh bytes
+none_ends fresh bytes lead q none part rest h =
+    let same : part.lead ≡ lead = h.begun ∙ sym q in
+    none rest (subst (λ v. 0 < opening v bytes) same h.some) (subst (λ v. opening v bytes ≤ length bytes) same h.within)
+    (subst (λ v. skip (row_of v) 0 (drop (opening v bytes) bytes) ≡ closing v ++ rest) same h.ended)
 
 pub none_said : (fresh : Bool) (bytes : List ℕ) (lead : Lead) (end : ℕ) → lead ≡ lead_of bytes →
     skip (row_of lead) 0 (drop (opening lead bytes) bytes) ≡ closing lead ++ drop end bytes →

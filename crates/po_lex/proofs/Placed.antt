@@ -1,13 +1,12 @@
 -- The file of each token of a file is a place among the file's names.
-use Rattle.std.proofs.Common.{◌≡◌, ℕ, suc, ◌+◌, ◌<◌, ◌≤◌, List, [], ◌∷◌, ◌++◌, length, arith, sym, ap, refl, ◌∙◌, subst, length-append}
+use Rattle.std.proofs.Common.{◌≡◌, ℕ, suc, ◌+◌, ◌<◌, List, [], ◌∷◌, length, arith, sym, ap, subst, length-append}
 use Rattle.std.specs.Prelude.{Option, Some, None}
 use Rattle.std.specs.List.{All}
 use Rattle.std.proofs.lemmas.List.Elements.{All-nil, All-cons, All-append}
-use Rattle.po_base.specs.declared.token.Token.{Token}
 use Rattle.po_base.specs.declared.token.Tokens.{Tokens}
 use Rattle.po_base.specs.declared.token.TokenKind.{TokenKind}
 use Rattle.po_lex.specs.Leads.{kind_of}
-use Rattle.po_lex.specs.Division.{Part, Divides, AreTokens, ArePlaced, after, start, as_token, tokens_of, names_of, named_by}
+use Rattle.po_lex.specs.Division.{Part, AreTokens, ArePlaced, after, start, as_token, tokens_of, names_of, named_by}
 use Rattle.po_lex.specs.declared.place.Place.{Place}
 
 here : (kind : Option TokenKind) (p : Place) (text : List ℕ) (n : ℕ) → p.named < n → All (λ t. t.file < n) (as_token kind p text)

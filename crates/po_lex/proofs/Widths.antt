@@ -6,7 +6,9 @@ use Rattle.std.proofs.lemmas.Bool.Decides.{eqb_tells}
 use Rattle.std.proofs.lemmas.List.{drop_more, drop-set, length-drop, take_all}
 use Rattle.po_base.specs.declared.token.Token.{Token}
 use Rattle.po_lex.specs.Brackets.{State, outset, step, behind_mark, mark, closer, is_closer, pop}
-use Rattle.po_lex.specs.Keeping.{group, is_closed, parens, doubled, size, begins_paren, is_one_of, attribute, assembler}
+use Rattle.po_lex.specs.Keeping.{group, is_closed, parens, doubled, size_as, size, extension_of, begins_paren}
+use Rattle.po_lex.specs.declared.extension.Extension.{Extension}
+use Rattle.po_lex.specs.declared.extension.Extension.TheVariants as e
 use Rattle.po_lex.specs.Closings.{parens_from_each, opened, met, closings, width}
 use Rattle.po_lex.specs.declared.walk.Open.{Open}
 use Rattle.po_lex.specs.declared.closing.Closing.{Closing}
@@ -192,15 +194,19 @@ doubled_within ts =
       | false ↦ omega arith
     ]
 
+size_as_within : (x : Extension) (m : Mood) (ts : List Token) → size_as x m ts ≤ length ts + 1
+size_as_within e.Attribute m ts =
+    let a = doubled_within ts in omega (arith, a)
+size_as_within e.Assembler m ts =
+    let b = parens_within ts in elim (m.after && (m.depth == 0)) as (λ v. cond v (parens ts + 1) 1 ≤ length ts + 1) [ true ↦ omega (arith, b) | false ↦ omega arith ]
+size_as_within e.Other m ts = omega arith
+size_as_within e.Dropped m ts = omega arith
+size_as_within e.Inline m ts = omega arith
+size_as_within e.Const m ts = omega arith
+
 -- what is judged at once is there
 pub size_within : (m : Mood) (t : Token) (ts : List Token) → size m t ts ≤ length ts + 1
-size_within m t ts =
-    let a = doubled_within ts in
-    let b = parens_within ts in
-    elim (is_one_of attribute t) as (λ v. cond v (doubled ts + 1) (cond (is_one_of assembler t && m.after && (m.depth == 0)) (parens ts + 1) 1) ≤ length ts + 1) [
-      | true ↦ omega (arith, a)
-      | false ↦ elim (is_one_of assembler t && m.after && (m.depth == 0)) as (λ v. cond v (parens ts + 1) 1 ≤ length ts + 1) [ true ↦ omega (arith, b) | false ↦ omega arith ]
-    ]
+size_within m t ts = size_as_within (extension_of t) m ts
 
 pub as_many : (ts : List Token) → length (parens_from_each ts) ≡ length ts
 as_many [] = refl
@@ -213,12 +219,13 @@ widths_behind read widths k q =
     take_all (length widths - k) (drop k widths) (omega arith) ∙ ap (drop k) q ∙ widths_from k read
 
 -- what is judged at once from a place on is there
-pub judged_within : (read : List Token) (widths : List ℕ) (at n : ℕ) (m : Mood) (t : Token) → at < length read → widths ≡ parens_from_each read →
-    ((others : List Token) → take (length widths - (at + 1)) (drop (at + 1) widths) ≡ parens_from_each others → n ≡ size m t others) →
+pub judged_within : (read : List Token) (widths : List ℕ) (at n : ℕ) (m : Mood) (x : Extension) (t : Token) → at < length read → widths ≡ parens_from_each read →
+    x ≡ extension_of t →
+    ((others : List Token) → take (length widths - (at + 1)) (drop (at + 1) widths) ≡ parens_from_each others → n ≡ size_as x m others) →
     (n ≡ size m t (drop (at + 1) read)) × (at + n ≤ length read)
-judged_within read widths at n m t in' q tells =
+judged_within read widths at n m x t in' q word tells =
     let us : List Token = drop (at + 1) read in
-    let sized : n ≡ size m t us = tells us (widths_behind read widths (at + 1) q) in
+    let sized : n ≡ size m t us = tells us (widths_behind read widths (at + 1) q) ∙ ap (λ v. size_as v m us) word in
     let within : size m t us ≤ length us + 1 = size_within m t us in
     let left : length us ≡ length read - (at + 1) = length-drop (at + 1) read in
     (sized, omega arith)

@@ -78,11 +78,12 @@ kind_of l.Str = Some k.Str
 kind_of l.Sign = Some k.Punct
 kind_of _ = None
 
--- how many lines end in a part with these bytes: none in a word, a number, a literal or a directive
+-- how many lines end in a part with these bytes: none in a token or a directive
 abbrev pub lines : Lead → List ℕ → ℕ
 lines l.Word text = 0
 lines l.Number text = 0
 lines l.Char text = 0
 lines l.Str text = 0
 lines l.Directive text = 0
+lines l.Sign text = 0
 lines _ text = newlines text

@@ -10,3 +10,5 @@ pub mod Shapes
 pub mod Keeping
 pub mod Closings
 pub mod Laws
+pub mod Texts
+pub mod Balance

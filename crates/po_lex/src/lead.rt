@@ -1,7 +1,7 @@
 ghost use Rattle.std.specs.Prelude.{◌≡◌};
-ghost use Rattle.po_lex.specs.Leads.{beginning, begins_number};
+ghost use Rattle.po_lex.specs.Leads.{beginning};
 
-use crate::bytes::{are, begins_word, is_digit, is_space};
+use crate::bytes::is_digit;
 
 /// What stands at a place, as the first two bytes there tell.
 #[derive(Clone, Copy, Debug, PartialEq, Eq)]
@@ -24,39 +24,56 @@ pub enum Lead {
     Sign,
 }
 
-/// Whether these two bytes begin a number: a digit, or a `.` and a digit.
-fn begins_number(first: u8, second: u8) -> bool
-    ensures { result ≡ begins_number first second }
-{
-    is_digit(first) || first == b'.' && is_digit(second)
-}
-
-/// What the first two bytes begin; `second` is 0 where there is no second.
+/// What the first two bytes begin; `second` is 0 where there is no second. The first byte alone tells, but for a
+/// backslash, `/` and `.`.
 pub(crate) fn beginning(first: u8, second: u8) -> Lead
     ensures { result ≡ beginning first second }
 {
-    if first == b'\n' || is_space(first) {
-        return Lead::Blank;
-    }
-    if are(first, second, b'\\', b'\n') {
-        return Lead::Joined;
-    }
-    if are(first, second, b'/', b'*') {
-        return Lead::Comment;
-    }
-    if are(first, second, b'/', b'/') {
-        return Lead::Remark;
-    }
-    if begins_word(first) {
-        return Lead::Word;
-    }
-    if begins_number(first, second) {
-        return Lead::Number;
-    }
     match first {
+        b'\t'..=b'\r' => Lead::Blank,
+        b' ' => Lead::Blank,
+        b'a'..=b'z' => Lead::Word,
+        b'A'..=b'Z' => Lead::Word,
+        b'_' => Lead::Word,
+        b'$' => Lead::Word,
+        b'0'..=b'9' => Lead::Number,
+        b'.' => after_dot(second),
         b'\'' => Lead::Char,
         b'"' => Lead::Str,
         b'#' => Lead::Directive,
+        b'\\' => after_backslash(second),
+        b'/' => after_slash(second),
+        _ => Lead::Sign,
+    }
+}
+
+/// What a `.` begins before this byte.
+fn after_dot(second: u8) -> Lead
+    ensures { result ≡ beginning 46 second }
+{
+    if is_digit(second) {
+        return Lead::Number;
+    }
+    Lead::Sign
+}
+
+/// What a backslash begins before this byte.
+fn after_backslash(second: u8) -> Lead
+    ensures { result ≡ beginning 92 second }
+{
+    if second == b'\n' {
+        return Lead::Joined;
+    }
+    Lead::Sign
+}
+
+/// What a `/` begins before this byte.
+fn after_slash(second: u8) -> Lead
+    ensures { result ≡ beginning 47 second }
+{
+    match second {
+        b'*' => Lead::Comment,
+        b'/' => Lead::Remark,
         _ => Lead::Sign,
     }
 }

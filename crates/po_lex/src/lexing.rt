@@ -1,4 +1,4 @@
-ghost use Rattle.std.specs.Prelude.{ℕ, ◌≡◌, ◌+◌, ◌-◌, ◌<◌, ◌≤◌, ◌^◌, ◌++◌, ◌∷◌, [], ◌≢◌, length, take, drop, IfOk, IfErr, OnOk, List as Items};
+ghost use Rattle.std.specs.Prelude.{ℕ, ◌≡◌, ◌+◌, ◌-◌, ◌<◌, ◌≤◌, ◌^◌, ◌++◌, ◌∷◌, [], ◌≢◌, length, take, drop, slice_index, IfOk, IfErr, OnOk, List as Items};
 ghost use Rattle.po_base.specs.declared.token.Token.{Token as Placed};
 ghost use Rattle.po_lex.specs.Bytes.{newlines};
 ghost use Rattle.po_lex.specs.Leads.{kind_of};
@@ -6,9 +6,10 @@ ghost use Rattle.po_lex.specs.Division.{Part, AreTokens, ArePlaced, Divides, Fai
 ghost use Rattle.po_lex.specs.Lexing.{IsKept, IsRead, HasCause, failure};
 ghost use Rattle.po_lex.specs.declared.lexing.LexFail.TheVariants.{Memory as NoMemory};
 
+use crate::bytes::is_blank;
 use crate::effect::Effect;
 use crate::lead::Lead;
-use crate::part::{Standing, part_of};
+use crate::part::{Standing, part_of, rest_of};
 use crate::place::Place;
 use po_base::{List, Memory, Text, Token, TokenKind, Tokens};
 use std::alloc::Global;
@@ -144,6 +145,16 @@ impl Lexer {
         })
     }
 
+    /// Reads a blank of this byte. Constant time.
+    fn read_blank(&mut self, byte: u8)
+        requires own { self.old.place.own ≤ 2 ^ 25 }
+        requires next { self.old.place.next ≤ 2 ^ 31 + 2 ^ 25 }
+        ensures read { (name : Items ℕ) (front : Items Part) → IsRead name front self.old → IsRead name (front ++ record { lead = Lead.Blank; text = byte ∷ []; effect = Effect.Silent } ∷ []) self.new }
+        ensures place { self.new.place ≡ moved self.old.place (byte ∷ []) Effect.Silent }
+    {
+        self.place = self.place.past_blank(byte);
+    }
+
     /// Reads a part that stands in the file from `at` on. Constant time, but for the blanks at its end.
     fn read(&mut self, file: &Text, at: usize, part: Standing) -> Result<(), Memory>
         requires within { at + part.end ≤ length file.now }
@@ -196,6 +207,42 @@ fn no_part(place: &Place, bytes: &[u8]) -> LexFail
     }
 }
 
+/// The byte at a place of a file.
+fn byte_at(file: &Text, at: usize) -> u8
+    requires { at < length file.now }
+    ensures { result ≡ slice_index file.now at }
+{
+    file.bytes()[at]
+}
+
+/// The tokens of a file of at most 2^24 bytes, which the tokens share. Time linear in the bytes.
+fn tokens_of_file(alloc: Global, name: &Text, file: &Text) -> Result<Tokens, LexFail>
+    requires { length file.now ≤ 2 ^ 24 }
+    ensures tokens { IfOk result (λ tokens. AreTokens name.now file.now tokens) }
+    ensures fail { IfErr result (λ fail. HasCause file.now fail) }
+{
+    let count = file.bytes().len();
+    let mut lexer = Lexer::new(alloc, name)?;
+    let mut at = 0;
+    while at < count {
+        let byte = byte_at(file, at);
+        if is_blank(byte) {
+            lexer.read_blank(byte);
+            at += 1;
+            continue;
+        }
+        match part_of(alloc, file, at, lexer.place.fresh)? {
+            Some(part) => {
+                let end = part.end;
+                lexer.read(file, at, part)?;
+                at += end;
+            }
+            None => return Err(no_part(&lexer.place, rest_of(file, at))),
+        }
+    }
+    lexer.finish()
+}
+
 /// The tokens of a file of at most 2^24 bytes that a C preprocessor wrote, in the one division of its bytes into
 /// longest parts. The first name is the file's own, and each line marker that gives a name adds one. Time is linear in
 /// the bytes. Memory is one copy of the bytes, which the tokens share, and for each token its place in the list; each name is
@@ -213,18 +260,5 @@ pub fn tokens(alloc: Global, name: &Text, bytes: &[u8]) -> Result<Tokens, LexFai
     ensures fail { IfErr result (λ fail. HasCause bytes.now fail) }
 {
     let file = Text::new(alloc, bytes)?;
-    let mut lexer = Lexer::new(alloc, name)?;
-    let mut at = 0;
-    while at < bytes.len() {
-        let left = &bytes[at..];
-        match part_of(alloc, left, lexer.place.fresh)? {
-            Some(part) => {
-                let end = part.end;
-                lexer.read(&file, at, part)?;
-                at += end;
-            }
-            None => return Err(no_part(&lexer.place, left)),
-        }
-    }
-    lexer.finish()
+    tokens_of_file(alloc, name, &file)
 }

@@ -6,6 +6,7 @@ mod bytes;
 mod closing;
 mod directive;
 mod effect;
+mod extension;
 mod keeping;
 mod laws;
 mod lead;
@@ -18,10 +19,12 @@ mod sign;
 mod walk;
 
 pub use effect::Effect;
+pub use extension::Extension;
 pub use keeping::{Mood, kept};
 pub use laws::{
-    kept_are_selected, longest_part_stands, one_division, one_failure, one_kept_list,
-    one_piece_list, one_shape_failure, one_token_list, pieces_cover, pieces_or_failure,
+    balanced_brackets, kept_are_selected, literals_are_those_of_c, literals_of_c_stand,
+    longest_part_stands, one_division, one_failure, one_kept_list, one_piece_list,
+    one_shape_failure, one_token_list, pieces_are_balanced, pieces_cover, pieces_or_failure,
     texts_stand_in_order, tokens_are_placed, tokens_or_failure,
 };
 pub use lead::Lead;

@@ -1,17 +1,16 @@
-ghost use Rattle.std.specs.Prelude.{ℕ, ◌≡◌, ◌+◌, ◌-◌, ◌<◌, ◌≤◌, ◌==◌, ◌||◌, ◌∷◌, [], ◌++◌, ◌^◌, length, take, drop, slice_index, IfOk, IfSome, IfNone, IsTrue, false, List as Bytes, option_to_list};
-ghost use Rattle.po_lex.specs.Bytes.{newlines, is_space};
+ghost use Rattle.std.specs.Prelude.{ℕ, ◌≡◌, ◌+◌, ◌-◌, ◌<◌, ◌≤◌, ◌++◌, ◌^◌, length, take, drop, slice_index, IfOk, IfSome, IfNone, IsTrue, false, List as Bytes, option_to_list};
+ghost use Rattle.po_lex.specs.Bytes.{newlines};
 ghost use Rattle.po_lex.specs.Leads.{lead_of, opening, row_of, closing, kind_of, lines};
 ghost use Rattle.po_lex.specs.Rows.{skip};
 ghost use Rattle.po_lex.specs.Division.{IsSaid, Stands, NoneStands};
 ghost use Rattle.po_lex.specs.declared.effect.Effect.{Effect as Said};
 
-use crate::bytes::is_space;
 use crate::directive::says;
 use crate::effect::Effect;
 use crate::lead::{Lead, beginning};
-use crate::row::{Row, row_end};
+use crate::row::{Row, row_end, word_end};
 use crate::sign::sign_length;
-use po_base::{Memory, TokenKind};
+use po_base::{Memory, Text, TokenKind};
 use std::alloc::Global;
 
 /// A part that stands at a place of a file: what it is, where it ends, how many lines end in it, and what it says.
@@ -141,8 +140,9 @@ fn closed_end(bytes: &[u8], opening: usize, row: Row, closing: Option<u8>) -> Op
     }
 }
 
-/// Where the part that begins the bytes ends; None where no part stands there. Time linear in its bytes.
-fn part_end(bytes: &[u8], lead: Lead) -> Option<usize>
+/// Where the part ends that begins the bytes and whose row may need a closing byte; None where no part stands there.
+/// Time linear in its bytes.
+fn opened_end(bytes: &[u8], lead: Lead) -> Option<usize>
     ensures begun { IfSome result (λ end. (0 < opening lead bytes.now) × (opening lead bytes.now ≤ length bytes.now)) }
     ensures ended { IfSome result (λ end. skip (row_of lead) 0 (drop (opening lead bytes.now) bytes.now) ≡ closing lead ++ drop end bytes.now) }
     ensures ends { IfSome result (λ end. (0 < end) × (end ≤ length bytes.now)) }
@@ -158,16 +158,82 @@ fn part_end(bytes: &[u8], lead: Lead) -> Option<usize>
     closed_end(bytes, opening, lead.row(), lead.closing())
 }
 
-/// What a directive says; None where it isn't allowed. Time and memory linear in its bytes.
-fn directive(alloc: Global, fresh: bool, text: &[u8]) -> Result<Option<Effect>, Memory>
-    requires { 0 < length text.now }
-    ensures said { IfOk result (λ found. IfSome found (λ effect. IsSaid Lead.Directive fresh text.now effect)) }
-    ensures none { IfOk result (λ found. IfNone found ((effect : Said) → IsSaid Lead.Directive fresh text.now effect → ⊥)) }
+/// Where the punctuator that begins the bytes ends; None where none stands there.
+fn sign_end(bytes: &[u8]) -> Option<usize>
+    ensures begun { IfSome result (λ end. (0 < opening Lead.Sign bytes.now) × (opening Lead.Sign bytes.now ≤ length bytes.now)) }
+    ensures ended { IfSome result (λ end. skip (row_of Lead.Sign) 0 (drop (opening Lead.Sign bytes.now) bytes.now) ≡ closing Lead.Sign ++ drop end bytes.now) }
+    ensures ends { IfSome result (λ end. (0 < end) × (end ≤ length bytes.now)) }
+    ensures none { IfNone result ((rest : Bytes ℕ) → 0 < opening Lead.Sign bytes.now → opening Lead.Sign bytes.now ≤ length bytes.now → skip (row_of Lead.Sign) 0 (drop (opening Lead.Sign bytes.now) bytes.now) ≡ closing Lead.Sign ++ rest → ⊥) }
+{
+    let end = sign_length(bytes);
+    if end == 0 {
+        return None;
+    }
+    Some(end)
+}
+
+/// Where the part that begins the bytes ends; None where no part stands there. Time linear in its bytes. Words and
+/// punctuators, which most parts are, need no closing byte.
+fn part_end(bytes: &[u8], lead: Lead) -> Option<usize>
+    requires { 0 < length bytes.now }
+    ensures begun { IfSome result (λ end. (0 < opening lead bytes.now) × (opening lead bytes.now ≤ length bytes.now)) }
+    ensures ended { IfSome result (λ end. skip (row_of lead) 0 (drop (opening lead bytes.now) bytes.now) ≡ closing lead ++ drop end bytes.now) }
+    ensures ends { IfSome result (λ end. (0 < end) × (end ≤ length bytes.now)) }
+    ensures none { IfNone result ((rest : Bytes ℕ) → 0 < opening lead bytes.now → opening lead bytes.now ≤ length bytes.now → skip (row_of lead) 0 (drop (opening lead bytes.now) bytes.now) ≡ closing lead ++ rest → ⊥) }
+{
+    match lead {
+        Lead::Word => Some(word_end(bytes, 1)),
+        Lead::Sign => sign_end(bytes),
+        Lead::Blank
+        | Lead::Joined
+        | Lead::Comment
+        | Lead::Remark
+        | Lead::Number
+        | Lead::Char
+        | Lead::Str
+        | Lead::Directive => opened_end(bytes, lead),
+    }
+}
+
+/// The bytes of a file from a place on.
+pub(crate) fn rest_of(file: &Text, at: usize) -> &[u8]
+    requires { at ≤ length file.now }
+    ensures { result.now ≡ drop at file.now }
+{
+    &file.bytes()[at..]
+}
+
+/// What stands behind the first byte of a part of `end` bytes, which stands in the file from `at` on. It shares the file's
+/// bytes. Constant time.
+fn behind_first(file: &Text, at: usize, end: usize) -> Result<Text, Memory>
+    requires short { length file.now < 2 ^ 32 }
+    requires some { 0 < end }
+    requires within { at + end ≤ length file.now }
+    ensures { IfOk result (λ line. line ≡ drop 1 (take end (drop at file.now))) }
+{
+    file.part(at + 1, at + end)
+}
+
+/// What the directive says whose `end` bytes stand in the file from `at` on; None where it isn't allowed. Time linear in
+/// its bytes.
+fn directive(
+    alloc: Global,
+    fresh: bool,
+    file: &Text,
+    at: usize,
+    end: usize,
+) -> Result<Option<Effect>, Memory>
+    requires short { length file.now < 2 ^ 32 }
+    requires some { 0 < end }
+    requires within { at + end ≤ length file.now }
+    ensures said { IfOk result (λ found. IfSome found (λ effect. IsSaid Lead.Directive fresh (take end (drop at file.now)) effect)) }
+    ensures none { IfOk result (λ found. IfNone found ((effect : Said) → IsSaid Lead.Directive fresh (take end (drop at file.now)) effect → ⊥)) }
 {
     if !fresh {
         return Ok(None);
     }
-    match says(alloc, &text[1..])? {
+    let line = behind_first(file, at, end)?;
+    match says(alloc, &line)? {
         Some(effect) => {
             if effect.is_proper() {
                 Ok(Some(effect))
@@ -179,15 +245,24 @@ fn directive(alloc: Global, fresh: bool, text: &[u8]) -> Result<Option<Effect>, 
     }
 }
 
-/// What a part with these bytes says; None where it is no directive that is allowed. Time and memory linear in the
-/// bytes of a directive.
-fn said(alloc: Global, lead: Lead, fresh: bool, text: &[u8]) -> Result<Option<Effect>, Memory>
-    requires { 0 < length text.now }
-    ensures said { IfOk result (λ found. IfSome found (λ effect. IsSaid lead fresh text.now effect)) }
-    ensures none { IfOk result (λ found. IfNone found ((effect : Said) → IsSaid lead fresh text.now effect → ⊥)) }
+/// What the part says whose `end` bytes stand in the file from `at` on; None where it is a directive that isn't allowed.
+/// Time linear in the bytes of a directive.
+fn said(
+    alloc: Global,
+    lead: Lead,
+    fresh: bool,
+    file: &Text,
+    at: usize,
+    end: usize,
+) -> Result<Option<Effect>, Memory>
+    requires short { length file.now < 2 ^ 32 }
+    requires some { 0 < end }
+    requires within { at + end ≤ length file.now }
+    ensures said { IfOk result (λ found. IfSome found (λ effect. IsSaid lead fresh (take end (drop at file.now)) effect)) }
+    ensures none { IfOk result (λ found. IfNone found ((effect : Said) → IsSaid lead fresh (take end (drop at file.now)) effect → ⊥)) }
 {
     match lead {
-        Lead::Directive => directive(alloc, fresh, text),
+        Lead::Directive => directive(alloc, fresh, file, at, end),
         Lead::Blank
         | Lead::Joined
         | Lead::Comment
@@ -201,64 +276,43 @@ fn said(alloc: Global, lead: Lead, fresh: bool, text: &[u8]) -> Result<Option<Ef
 }
 
 impl Lead {
-    /// How many lines end in a part with these bytes. Words, numbers, literals and directives aren't read again for it.
+    /// How many lines end in a part with these bytes. Tokens and directives aren't read again for it.
     fn lines(self, text: &[u8]) -> u32
         requires { length text.now < 2 ^ 32 }
         ensures { result ≡ lines self text.now }
     {
         match self {
-            Lead::Word | Lead::Number | Lead::Char | Lead::Str | Lead::Directive => 0,
-            Lead::Blank | Lead::Joined | Lead::Comment | Lead::Remark | Lead::Sign => newlines(
-                text,
-            ),
+            Lead::Word | Lead::Number | Lead::Char | Lead::Str | Lead::Directive | Lead::Sign => 0,
+            Lead::Blank | Lead::Joined | Lead::Comment | Lead::Remark => newlines(text),
         }
     }
 }
 
-/// Whether a byte is a blank by itself.
-fn is_blank(byte: u8) -> bool
-    ensures { result ≡ (byte == 10) || is_space byte }
+/// The part that stands in the file from `at` on; None where no part stands there. Time linear in its bytes.
+pub(crate) fn part_of(
+    alloc: Global,
+    file: &Text,
+    at: usize,
+    fresh: bool,
+) -> Result<Option<Standing>, Memory>
+    requires short { length file.now < 2 ^ 32 }
+    requires within { at < length file.now }
+    ensures found { IfOk result (λ found. IfSome found (λ p. Stands fresh (drop at file.now) (record { lead = p.lead; text = take p.end (drop at file.now); effect = p.effect }) (drop p.end (drop at file.now)))) }
+    ensures ends { IfOk result (λ found. IfSome found (λ p. (0 < p.end) × (at + p.end ≤ length file.now))) }
+    ensures lines { IfOk result (λ found. IfSome found (λ p. p.lines ≡ newlines (take p.end (drop at file.now)))) }
+    ensures none { IfOk result (λ found. IfNone found (NoneStands fresh (drop at file.now))) }
 {
-    byte == b'\n' || is_space(byte)
-}
-
-/// The part that this blank is.
-fn blank(byte: u8) -> Standing
-    ensures { result ≡ record { lead = Lead.Blank; end = 1; lines = newlines (byte ∷ []); effect = Effect.Silent } }
-{
-    Standing {
-        lead: Lead::Blank,
-        end: 1,
-        lines: newlines(&[byte]),
-        effect: Effect::Silent,
-    }
-}
-
-/// The part that begins the bytes; None where no part stands there. Time linear in its bytes.
-pub(crate) fn part_of(alloc: Global, bytes: &[u8], fresh: bool) -> Result<Option<Standing>, Memory>
-    requires { length bytes.now < 2 ^ 32 }
-    ensures found { IfOk result (λ found. IfSome found (λ p. Stands fresh bytes.now (record { lead = p.lead; text = take p.end bytes.now; effect = p.effect }) (drop p.end bytes.now))) }
-    ensures ends { IfOk result (λ found. IfSome found (λ p. (0 < p.end) × (p.end ≤ length bytes.now))) }
-    ensures lines { IfOk result (λ found. IfSome found (λ p. p.lines ≡ newlines (take p.end bytes.now))) }
-    ensures none { IfOk result (λ found. IfNone found (NoneStands fresh bytes.now)) }
-{
-    if bytes.len() > 0 {
-        let first = bytes[0];
-        if is_blank(first) {
-            return Ok(Some(blank(first)));
-        }
-    }
+    let bytes = rest_of(file, at);
     let lead = lead_of(bytes);
     let end = match part_end(bytes, lead) {
         Some(end) => end,
         None => return Ok(None),
     };
-    let text = &bytes[..end];
-    match said(alloc, lead, fresh, text)? {
+    match said(alloc, lead, fresh, file, at, end)? {
         Some(effect) => Ok(Some(Standing {
             lead,
             end,
-            lines: lead.lines(text),
+            lines: lead.lines(&bytes[..end]),
             effect,
         })),
         None => Ok(None),

@@ -1,6 +1,6 @@
-ghost use Rattle.std.specs.Prelude.{◌≡◌, ◌+◌, ◌<◌, ◌≤◌, ◌^◌, length};
+ghost use Rattle.std.specs.Prelude.{◌≡◌, ◌+◌, ◌<◌, ◌≤◌, ◌^◌, ◌∷◌, [], length};
 ghost use Rattle.po_lex.specs.Bytes.{newlines};
-ghost use Rattle.po_lex.specs.Division.{freshly, moved, named_by, next_line};
+ghost use Rattle.po_lex.specs.Division.{freshly, moved, next_line};
 
 use crate::bytes::is_gap;
 use crate::effect::Effect;
@@ -37,30 +37,29 @@ fn freshly(fresh: bool, text: &[u8]) -> bool
     fresh
 }
 
-/// The number of the line after this one, where it was `next` before.
-fn next_line(effect: &Effect, next: u32) -> u32
-    ensures { result ≡ next_line effect.now next }
-{
-    match effect {
-        Effect::Silent => next,
-        Effect::Line(number) => *number,
-        Effect::Named(number, _) => *number,
-    }
-}
-
-/// How many names a part gives to the file.
-fn names_given(effect: &Effect) -> u32
-    ensures value { result ≡ length (named_by effect.now) }
-    ensures few { result ≤ 1 }
-{
-    match effect {
-        Effect::Silent => 0,
-        Effect::Line(_) => 0,
-        Effect::Named(_, _) => 1,
-    }
-}
-
 impl Place {
+    /// The place behind a blank of this byte. Constant time.
+    pub(crate) fn past_blank(&self, byte: u8) -> Place
+        requires own { self.now.own ≤ 2 ^ 25 }
+        requires next { self.now.next ≤ 2 ^ 31 + 2 ^ 25 }
+        ensures { result ≡ moved self.now (byte ∷ []) Effect.Silent }
+    {
+        if byte == b'\n' {
+            return Place {
+                fresh: true,
+                next: self.next + 1,
+                own: self.own + 1,
+                named: self.named,
+            };
+        }
+        Place {
+            fresh: is_gap(byte) && self.fresh,
+            next: self.next,
+            own: self.own,
+            named: self.named,
+        }
+    }
+
     /// The place behind a part with these bytes, in which so many lines end, and which says this. Constant time, but for the
     /// spaces and tabs at its end.
     pub(crate) fn moved(&self, text: &[u8], lines: u32, effect: &Effect) -> Place
@@ -71,11 +70,27 @@ impl Place {
         requires next { next_line effect.now self.now.next ≤ 2 ^ 31 + 2 ^ 25 }
         ensures { result ≡ moved self.now text.now effect.now }
     {
-        Place {
-            fresh: freshly(self.fresh, text),
-            next: next_line(effect, self.next) + lines,
-            own: self.own + lines,
-            named: self.named + names_given(effect),
+        let fresh = freshly(self.fresh, text);
+        let own = self.own + lines;
+        match effect {
+            Effect::Silent => Place {
+                fresh,
+                next: self.next + lines,
+                own,
+                named: self.named,
+            },
+            Effect::Line(number) => Place {
+                fresh,
+                next: *number + lines,
+                own,
+                named: self.named,
+            },
+            Effect::Named(number, _) => Place {
+                fresh,
+                next: *number + lines,
+                own,
+                named: self.named + 1,
+            },
         }
     }
 }

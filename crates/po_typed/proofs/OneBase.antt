@@ -39,27 +39,27 @@ type_words_are_words no_more_words = All-nil IsWordSpecifier
 type_words_are_words (word_of_type text specs words h d) = All-cons IsWordSpecifier (sp.Word text) specs (is_word text) (type_words_are_words d)
 type_words_are_words (other_word text specs words h d) = All-cons IsWordSpecifier (sp.Word text) specs (is_word text) (type_words_are_words d)
 
-abbrev first_or : Specifier → List Specifier → Specifier
+abbrev pub first_or : Specifier → List Specifier → Specifier
 first_or d [] = d
 first_or d (s ∷ specs) = s
 
-abbrev rest_of : List Specifier → List Specifier
+abbrev pub rest_of : List Specifier → List Specifier
 rest_of [] = []
 rest_of (s ∷ specs) = specs
 
--- the one specifier among words
-pub one_apart : (s s' : Specifier) (after after' before before' : List Specifier) → before ++ (s ∷ after) ≡ before' ++ (s' ∷ after') →
-    AreWords before → AreWords before' → (IsWordSpecifier s → ⊥) → (IsWordSpecifier s' → ⊥) → s ≡ s'
-one_apart s s' after after' [] [] q h h' n n' = ap (first_or s) q
-one_apart s s' after after' [] (b ∷ before') q h h' n n' = absurd (n (subst IsWordSpecifier (sym (ap (first_or s) q)) (All-head IsWordSpecifier b before' h')))
-one_apart s s' after after' (b ∷ before) [] q h h' n n' = absurd (n' (subst IsWordSpecifier (ap (first_or s) q) (All-head IsWordSpecifier b before h)))
-one_apart s s' after after' (b ∷ before) (b' ∷ before') q h h' n n' =
-    one_apart s s' after after' before before' (ap rest_of q) (All-tail IsWordSpecifier b before h) (All-tail IsWordSpecifier b' before' h') n n'
+-- the one specifier that isn't as the others are
+pub one_apart : (P : Specifier → Type 0) (s s' : Specifier) (after after' before before' : List Specifier) → before ++ (s ∷ after) ≡ before' ++ (s' ∷ after') →
+    All P before → All P before' → (P s → ⊥) → (P s' → ⊥) → s ≡ s'
+one_apart P s s' after after' [] [] q h h' n n' = ap (first_or s) q
+one_apart P s s' after after' [] (b ∷ before') q h h' n n' = absurd (n (subst P (sym (ap (first_or s) q)) (All-head P b before' h')))
+one_apart P s s' after after' (b ∷ before) [] q h h' n n' = absurd (n' (subst P (ap (first_or s) q) (All-head P b before h)))
+one_apart P s s' after after' (b ∷ before) (b' ∷ before') q h h' n n' =
+    one_apart P s s' after after' before before' (ap rest_of q) (All-tail P b before h) (All-tail P b' before' h') n n'
 
--- words alone have no specifier apart
-pub none_apart : {A : Type 0} (s : Specifier) (after before : List Specifier) → AreWords (before ++ (s ∷ after)) → (IsWordSpecifier s → ⊥) → A
-none_apart s after [] h n = absurd (n (All-head IsWordSpecifier s after h))
-none_apart s after (b ∷ before) h n = none_apart s after before (All-tail IsWordSpecifier b (before ++ (s ∷ after)) h) n
+-- there is none where all are alike
+pub none_apart : {A : Type 0} (P : Specifier → Type 0) (s : Specifier) (after before : List Specifier) → All P (before ++ (s ∷ after)) → (P s → ⊥) → A
+none_apart P s after [] h n = absurd (n (All-head P s after h))
+none_apart P s after (b ∷ before) h n = none_apart P s after before (All-tail P b (before ++ (s ∷ after)) h) n
 
 pub words_are_words : {target : Target} {specs : List Specifier} {t : CType} → IsWordType target specs t → AreWords specs
 words_are_words d = type_words_are_words d.among
@@ -85,10 +85,10 @@ module _ {ctx : Context} where
 
   pub one_base : {specs : List Specifier} {t u : CType} → IsBase ctx specs t → IsBase ctx specs u → t ≡ u
   one_base (base_words d) (base_words d') = word_type_is_one d d'
-  one_base (base_words d) (base_of_one before after s q b a d') = none_apart s after before (subst AreWords q (words_are_words d)) (in_force_is_no_word d')
-  one_base (base_of_one before after s q b a d) (base_words d') = none_apart s after before (subst AreWords q (words_are_words d')) (in_force_is_no_word d)
+  one_base (base_words d) (base_of_one before after s q b a d') = none_apart IsWordSpecifier s after before (subst AreWords q (words_are_words d)) (in_force_is_no_word d')
+  one_base (base_of_one before after s q b a d) (base_words d') = none_apart IsWordSpecifier s after before (subst AreWords q (words_are_words d')) (in_force_is_no_word d)
   one_base {u = u} (base_of_one before after s q b a d) (base_of_one before' after' s' q' b' a' d') =
-      let e : s ≡ s' = one_apart s s' after after' before before' (sym q ∙ q') (plain_are_words before b) (plain_are_words before' b') (in_force_is_no_word d) (in_force_is_no_word d') in
+      let e : s ≡ s' = one_apart IsWordSpecifier s s' after after' before before' (sym q ∙ q') (plain_are_words before b) (plain_are_words before' b') (in_force_is_no_word d) (in_force_is_no_word d') in
       one_in_force d (subst (λ z. IsInForce ctx (out-Specifier z) u) (sym e) d')
 
   pub one_starred : {name : TypeName} {t u : CType} → IsStarredBase ctx name t → IsStarredBase ctx name u → t ≡ u

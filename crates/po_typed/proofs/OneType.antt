@@ -29,6 +29,12 @@ integer_Int t = ap integer_layer (out_Int t)
 pub integer_Ptr : (t : CType) → integer (c.Ptr t) ≡ None
 integer_Ptr t = ap integer_layer (out_Ptr t)
 
+pub integer_Struct : (n : ℕ) → integer (c.Struct n) ≡ None
+integer_Struct n = ap integer_layer (out_Struct n)
+
+pub integer_Void : integer c.Void ≡ None
+integer_Void = ap integer_layer out_Void
+
 pub pointee_Ptr : (t : CType) → pointee (c.Ptr t) ≡ Some t
 pointee_Ptr t = ap pointee_layer (out_Ptr t)
 

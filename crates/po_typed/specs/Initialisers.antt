@@ -95,8 +95,8 @@ mutual
   -- the first members, in order
   pub data InMembers (ctx : Context) (place : Place) : List (List ℕ × CType) → List Init → List Pair → Type 0 where
     no_more_values : {ms : List (List ℕ × CType)} → InMembers ctx place ms [] []
-    member_value : {name : List ℕ} {t : CType} {ms : List (List ℕ × CType)} {x : Init} {xs : List Init} {ps qs : List Pair} → Initialises ctx place t (out-Init x) t ps →
-        InMembers ctx place ms xs qs → InMembers ctx place ((name, t) ∷ ms) (x ∷ xs) (ps ++ qs)
+    member_value : {m : List ℕ × CType} {ms : List (List ℕ × CType)} {x : Init} {xs : List Init} {ps qs : List Pair} → Initialises ctx place m.1 (out-Init x) m.1 ps →
+        InMembers ctx place ms xs qs → InMembers ctx place (m ∷ ms) (x ∷ xs) (ps ++ qs)
 
   pub data InElements (ctx : Context) (place : Place) : CType → List Init → List Pair → Type 0 where
     no_more_elements : {t : CType} → InElements ctx place t [] []

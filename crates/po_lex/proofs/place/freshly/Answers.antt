@@ -1,8 +1,5 @@
-use Rattle.std.proofs.Common.{◌≡◌, ◌-◌, true, false, ◌∙◌, sym, refl, arith, take, get_or, ℕ, List, Bool, ne_eqb}
-use Rattle.std.proofs.lemmas.List.{take_all}
-use Rattle.std.proofs.lemmas.Bool.{eq-eqb}
+use Rattle.std.proofs.Common.{◌≡◌, ◌-◌, true, false, ◌∙◌, sym, refl, arith, get_or, ℕ, ne_eqb}
 use Rattle.po_lex.specs.Bytes.{is_gap}
-use Rattle.po_lex.specs.Division.{freshly}
 use Rattle.po_lex.proofs.Lines.{freshly_at}
 use Rattle.po_lex.proofs.place.freshly.Goals as goal
 
