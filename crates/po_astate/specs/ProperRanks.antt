@@ -6,6 +6,7 @@ use Rattle.std.proofs.lemmas.Int.{ints, by_lt_z}
 use Rattle.std.proofs.lemmas.Bool.{cases_lt}
 use Rattle.std.specs.Cmp.{nat_cmp_total}
 use Rattle.std.specs.Ordering.{nat_cmp}
+use Rattle.std.proofs.lemmas.Map.Lookups.{exact_unsigned}
 use Rattle.po_base.specs.declared.numbers.NodeNo.{NodeNo}
 use Rattle.po_arith.specs.declared.int_type.IntType.{IntType}
 use Rattle.po_arith.specs.declared.interval.Interval.{Interval}
@@ -24,7 +25,7 @@ use Rattle.po_bases.specs.Maps.{IsMap, IsAscending, AreAfter, MapBelow}
 use Rattle.po_bases.specs.Base.{base_cmp, base_total, base_same}
 use Rattle.po_bases.specs.Bases.{IsGrain, IsEntry, EntryBelow, IsBases, BasesBelow}
 use Rattle.po_bases.specs.Filled.{IsFilled, FilledBelow, node_of, HeapEntryBelow, IsHeapEntry, HeapBelow}
-use Rattle.po_bases.specs.FilledLaws.{when_equal, when_less}
+use Rattle.po_bases.specs.FilledLaws.{when_less}
 use Rattle.po_astate.specs.Values.{Rel, RelBelow, IsValue, ValueBelow}
 use Rattle.po_astate.specs.States.{StateBelow}
 use Rattle.po_astate.specs.Ranks.{IsRanked, ranked_among, ranked_below, ranked_alone, ranked_pairs, ranked_along, rank_from_none, rank_to_none, ranked_from_none, ranked_to_none, ranked_each, ranked_maps, map_rank}
@@ -190,10 +191,10 @@ module _ (ends : List ℤ) where
       HeapEntryBelow (λ x y h. (tt, h))
 
   abbrev heap_rank : List (NodeNo × HeapFact) → ℕ
-  heap_rank es = map_rank node_of nat_cmp nat_cmp_total when_equal HeapEntryBelow BlockForm block_rank block_height ranked_blocks es
+  heap_rank es = map_rank node_of nat_cmp nat_cmp_total exact_unsigned HeapEntryBelow BlockForm block_rank block_height ranked_blocks es
 
   ranked_heaps : (n : ℕ) → IsRanked (λ es. IsMap node_of nat_cmp BlockForm es × (length es ≤ n)) HeapBelow heap_rank (n * suc block_height)
-  ranked_heaps n = ranked_maps node_of nat_cmp nat_cmp_total when_equal HeapEntryBelow BlockForm block_rank block_height ranked_blocks n
+  ranked_heaps n = ranked_maps node_of nat_cmp nat_cmp_total exact_unsigned HeapEntryBelow BlockForm block_rank block_height ranked_blocks n
 
   -- ---- values
 

@@ -6,6 +6,7 @@ use Rattle.std.specs.Bool.{Decides}
 use Rattle.std.specs.Cmp.{nat_cmp_total}
 use Rattle.std.specs.Ordering.{nat_cmp}
 use Rattle.std.proofs.lemmas.Bool.Decides.{Decides-and}
+use Rattle.std.proofs.lemmas.Map.Lookups.{exact_unsigned}
 use Rattle.po_base.specs.declared.numbers.NodeNo.{NodeNo}
 use Rattle.po_interval.specs.Members.{WithinIsExact, OneOfAll, JoinIsLeast}
 use Rattle.po_bases.specs.declared.filled.Filled.{Filled}
@@ -13,7 +14,7 @@ use Rattle.po_bases.specs.declared.heap_fact.HeapFact.{HeapFact}
 use Rattle.po_bases.specs.General.{IsJoin, IfThere, BelowFromNone, either_join, from_none, each, each_join, EachProper, Maybe, maybe, maybe_tells, pairs, along, renamed, reordered, rejoined, join_of_lesser, join_of_greater}
 use Rattle.po_bases.specs.Maps.{covered_tells}
 use Rattle.po_bases.specs.Filled.{IsFilled, FilledBelow, node_of, IsHeapEntry, HeapEntryBelow, IsHeap, HeapBelow, join_heap}
-use Rattle.po_bases.specs.FilledLaws.{when_equal, filled_join, filled_tells, fact_tells, heaps_join}
+use Rattle.po_bases.specs.FilledLaws.{filled_join, filled_tells, fact_tells, heaps_join}
 use Rattle.po_astate.specs.Each.{each_within}
 use Rattle.po_astate.specs.Values.{IsValue, ValueBelow, value_within, join_values}
 use Rattle.po_astate.specs.ValuesLaws.{values_join, value_tells}
@@ -42,7 +43,7 @@ heap_entry_tells : (e f : NodeNo × HeapFact) → IsHeapEntry e → IsHeapEntry 
 heap_entry_tells e f pe pf = fact_tells e.1 f.1 pe pf
 
 heap_tells : (es fs : List (NodeNo × HeapFact)) → IsHeap es → IsHeap fs → Decides (heap_within es fs) (HeapBelow es fs)
-heap_tells es fs pe pf = covered_tells node_of nat_cmp nat_cmp_total when_equal HeapEntryBelow heap_entry_within IsHeapEntry heap_entry_tells es fs pe pf
+heap_tells es fs pe pf = covered_tells node_of nat_cmp nat_cmp_total exact_unsigned HeapEntryBelow heap_entry_within IsHeapEntry heap_entry_tells es fs pe pf
 
 -- ---- states
 

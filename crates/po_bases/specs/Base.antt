@@ -1,11 +1,12 @@
 -- Bases in their order: by kind, and then by number.
-use Rattle.std.specs.Prelude.{◌≡◌, ℕ, ◌<◌, Bool, true, false}
-use Rattle.std.proofs.Common.{refl, ap, subst, arith}
+use Rattle.std.specs.Prelude.{◌≡◌, ℕ, Bool, true, false}
+use Rattle.std.proofs.Common.{refl, ap, arith}
 use Rattle.std.specs.declared.cmp.Ordering.{Ordering}
-use Rattle.std.specs.declared.cmp.Ordering.TheVariants.{Less, Equal, Greater}
-use Rattle.std.specs.Ordering.{nat_cmp, on, then_cmp, ordering_then, MatchOrdering}
+use Rattle.std.specs.declared.cmp.Ordering.TheVariants.{Equal}
+use Rattle.std.specs.Ordering.{nat_cmp, on, then_cmp}
 use Rattle.std.specs.Cmp.{IsTotalOrder, then_total, on_total, nat_cmp_total}
-use Rattle.std.proofs.lemmas.Cmp.{ranked}
+use Rattle.po_lists.proofs.Orders.{both_equal}
+use Rattle.std.proofs.lemmas.Map.Lookups.{exact_unsigned}
 use Rattle.po_bases.specs.declared.base.Base.{Base}
 use Rattle.po_bases.specs.declared.base.Base.TheVariants.{Param, Slot, Global, Literal, Heap, Null}
 
@@ -41,17 +42,6 @@ base_total = then_total (on_total kind nat_cmp_total) (on_total number nat_cmp_t
 
 -- ---- bases that compare equal are the same
 
-both : (r s : Ordering) → ordering_then r s ≡ Equal → (r ≡ Equal) × (s ≡ Equal)
-both Less s same = cc
-both Equal s same = (refl, same)
-both Greater s same = cc
-
-ranked_same : (P Q R : Type 0) (r : Ordering) → r ≡ Equal → MatchOrdering r P Q R → Q
-ranked_same P Q R r same given = subst (λ o. MatchOrdering o P Q R) same given
-
-nat_same : (m n : ℕ) → nat_cmp m n ≡ Equal → m ≡ n
-nat_same m n same = ranked_same (m < n) (m ≡ n) (n < m) (nat_cmp m n) same (ranked m n (nat_cmp m n) refl)
-
 same_parts : (a b : Base) → kind a ≡ kind b → number a ≡ number b → a ≡ b
 same_parts (Param i) (Param j) kinds numbers = ap Param numbers
 same_parts (Slot s) (Slot t) kinds numbers = λ i. Slot (record { 0 = numbers i })
@@ -63,5 +53,5 @@ same_parts _ _ kinds numbers = absurd (omega arith)
 
 pub base_same : (a b : Base) → base_cmp a b ≡ Equal → a ≡ b
 base_same a b same =
-    let parts = both (nat_cmp (kind a) (kind b)) (nat_cmp (number a) (number b)) same in
-    same_parts a b (nat_same (kind a) (kind b) parts.0) (nat_same (number a) (number b) parts.1)
+    let parts = both_equal (nat_cmp (kind a) (kind b)) (nat_cmp (number a) (number b)) same in
+    same_parts a b (exact_unsigned (kind a) (kind b) parts.0) (exact_unsigned (number a) (number b) parts.1)

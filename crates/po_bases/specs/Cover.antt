@@ -1,20 +1,19 @@
 -- What bases allow: a value that is one of them moved by an offset. Greater bases, joins and moved bases allow what they are to.
-use Rattle.std.specs.Prelude.{◌≡◌, ℕ, zero, suc, ◌+◌, ◌*◌, ◌<◌, ◌≤◌, min, Bool, true, false, cond, ℤ, pos, negsuc, neg_ℤ, ◌+ℤ◌, ◌*ℤ◌, List, [], ◌∷◌, ◌++◌, Option, Some, None, ◌⊎◌}
-use Rattle.std.proofs.Common.{refl, sym, ap, ◌∙◌, subst, arith, inl, inr, mul_assoc}
+use Rattle.std.specs.Prelude.{◌≡◌, ℕ, ◌+◌, ◌*◌, ◌≤◌, min, Bool, true, false, cond, ℤ, pos, ◌+ℤ◌, ◌*ℤ◌, List, [], ◌∷◌, ◌++◌, Option, Some, None}
+use Rattle.std.proofs.Common.{refl, sym, ap, ◌∙◌, subst, arith, inl, inr}
 use Rattle.std.proofs.lemmas.Int.{ints}
 use Rattle.std.specs.List.{AllByRecursion}
 use Rattle.std.specs.Option.{option_map}
-use Rattle.std.specs.declared.cmp.Ordering.{Ordering}
-use Rattle.std.specs.declared.cmp.Ordering.TheVariants.{Less, Equal, Greater}
 use Rattle.std.specs.Ordering.{is_eq}
-use Rattle.std.proofs.Math.IntN.{*ℤ_comm, *ℤ-zero, suc_ℤ-*ℤ}
+use Rattle.po_lists.proofs.Integers.{times_parts, distributes}
+use Rattle.po_lists.proofs.Orders.{equal_where_tested}
 use Rattle.po_arith.specs.declared.interval.Interval.{Interval}
 use Rattle.po_arith.specs.Hull.{IsAtLeast, IsAtMost, IsIn}
 use Rattle.po_bases.specs.General.{IfThere, BelowFromNone}
 use Rattle.po_bases.specs.Intervals.{IsBetween, LowBelow, HighBelow, in_between}
-use Rattle.po_bases.specs.Maps.{find, IsMap, MapBelow, IsAscending, AreAfter, found_form, not_below}
+use Rattle.po_bases.specs.Maps.{find, MapBelow, found_form, not_below}
 use Rattle.po_bases.specs.Base.{base_cmp, base_total, base_same, is_null}
-use Rattle.po_bases.specs.Bases.{IsGrain, IsEntry, EntryBelow, join_entries, IsBases, BasesBelow, join_bases, sum, moved_interval, moved_entry, moved_entries, some_known, move_bases}
+use Rattle.po_bases.specs.Bases.{IsGrain, IsEntry, EntryBelow, join_entries, IsBases, BasesBelow, join_bases, sum, moved_entry, moved_entries, some_known, move_bases}
 use Rattle.po_bases.specs.BasesLaws.{lesser_is, entries, bases_join}
 use Rattle.po_bases.specs.declared.base.Base.{Base}
 use Rattle.po_bases.specs.declared.entry.Entry.{Entry}
@@ -64,33 +63,13 @@ grain_over g h (inr (inr (inr (inr is_g)))) (inr (inr (inl is_h))) le = (4, omeg
 grain_over g h (inr (inr (inr (inr is_g)))) (inr (inr (inr (inl is_h)))) le = (2, omega arith)
 grain_over g h (inr (inr (inr (inr is_g)))) (inr (inr (inr (inr is_h)))) le = (1, omega arith)
 
-negative_times : (k h : ℕ) → neg_ℤ (pos k) *ℤ pos h ≡ neg_ℤ (pos (k * h))
-negative_times zero h = let e : 0 * h ≡ 0 = omega arith in rw e refl
-negative_times (suc k) h = refl
-
-times_parts : (m : ℤ) (c h : ℕ) → m *ℤ pos (c * h) ≡ (m *ℤ pos c) *ℤ pos h
-times_parts (pos a) c h = ap pos (sym (mul_assoc a c h))
-times_parts (negsuc a) c h = ap (λ k. neg_ℤ (pos k)) (sym (mul_assoc (suc a) c h)) ∙ sym (negative_times (suc a * c) h)
-
 multiple_of_lesser : (g h : ℕ) (v : ℤ) → IsGrain g → IsGrain h → h ≤ g → IsMultiple g v → IsMultiple h v
 multiple_of_lesser g h v is_g is_h le (m, v_is) =
     let over = grain_over g h is_g is_h le in
     (m *ℤ pos over.0, v_is ∙ ap (λ k. m *ℤ pos k) over.1 ∙ times_parts m over.0 h)
 
-times_suc : (m : ℤ) (n : ℕ) → m *ℤ pos (suc n) ≡ (m *ℤ pos n) +ℤ m
-times_suc m n = *ℤ_comm m (pos (suc n)) ∙ suc_ℤ-*ℤ (pos n) m ∙ ap (λ k. k +ℤ m) (*ℤ_comm (pos n) m)
-
-regrouped : (x y a b : ℤ) → (x +ℤ y) +ℤ (a +ℤ b) ≡ (x +ℤ a) +ℤ (y +ℤ b)
-regrouped x y a b = omega (arith, ints)
-
-sum_times : (a b : ℤ) (n : ℕ) → (a +ℤ b) *ℤ pos n ≡ (a *ℤ pos n) +ℤ (b *ℤ pos n)
-sum_times a b zero = *ℤ-zero (a +ℤ b) ∙ sym (ap (λ k. k +ℤ (b *ℤ pos 0)) (*ℤ-zero a) ∙ ap (λ k. pos 0 +ℤ k) (*ℤ-zero b))
-sum_times a b (suc n) =
-    times_suc (a +ℤ b) n ∙ ap (λ k. k +ℤ (a +ℤ b)) (sum_times a b n) ∙ regrouped (a *ℤ pos n) (b *ℤ pos n) a b
-    ∙ ap (λ k. k +ℤ ((b *ℤ pos n) +ℤ b)) (sym (times_suc a n)) ∙ ap (λ k. (a *ℤ pos (suc n)) +ℤ k) (sym (times_suc b n))
-
 sum_multiple : (g : ℕ) (v w : ℤ) → IsMultiple g v → IsMultiple g w → IsMultiple g (v +ℤ w)
-sum_multiple g v w (m, v_is) (n, w_is) = (m +ℤ n, ap (λ k. k +ℤ w) v_is ∙ ap (λ k. (m *ℤ pos g) +ℤ k) w_is ∙ sym (sum_times m n g))
+sum_multiple g v w (m, v_is) (n, w_is) = (m +ℤ n, ap (λ k. k +ℤ w) v_is ∙ ap (λ k. (m *ℤ pos g) +ℤ k) w_is ∙ sym (distributes m n (pos g)))
 
 -- ---- entries
 
@@ -139,11 +118,6 @@ split_found : (b : Base) (null : Bool) (e : Entry) (rest : List Entry) →
 split_found b true e rest = refl
 split_found b false e rest = refl
 
-tested : (o : Ordering) → is_eq o ≡ true → o ≡ Equal
-tested Less h = cc
-tested Equal h = refl
-tested Greater h = cc
-
 pub find-moved_entries : (by : Interval) (grain : ℕ) (es : List Entry) (b : Base) →
     find (λ e. e.base) base_cmp (moved_entries by grain es) b ≡ moved_found by grain b (find (λ e. e.base) base_cmp es b)
 find-moved_entries by grain [] b = none (is_null b) where
@@ -153,7 +127,7 @@ find-moved_entries by grain [] b = none (is_null b) where
 find-moved_entries by grain (x ∷ xs) b =
     split_found b (is_null x.base) (moved_entry by grain x) (moved_entries by grain xs)
     ∙ found_moved by grain b (is_eq (base_cmp x.base b)) (is_null x.base) x (find (λ e. e.base) base_cmp xs b) (find (λ e. e.base) base_cmp (moved_entries by grain xs) b)
-    (λ h. ap is_null (base_same x.base b (tested (base_cmp x.base b) h))) (find-moved_entries by grain xs b)
+    (λ h. ap is_null (base_same x.base b (equal_where_tested (base_cmp x.base b) h))) (find-moved_entries by grain xs b)
 
 sum_low : (a b : Option ℤ) (v w : ℤ) → IsAtLeast a v → IsAtLeast b w → IsAtLeast (sum a b) (v +ℤ w)
 sum_low None b v w h k = tt

@@ -1,18 +1,19 @@
 -- Filled bytes and facts of blocks are ordered, and their joins are the least upper bounds.
-use Rattle.std.specs.Prelude.{◌≡◌, ℕ, suc, ◌<◌, ◌≤◌, ◌^◌, ◌+◌, min, nat_le, nat_lt, Bool, true, false, cond, not, ◌&&◌, ◌||◌, List, [], ◌∷◌, ◌⊎◌, ◌↔◌}
+use Rattle.std.specs.Prelude.{◌≡◌, ℕ, ◌<◌, ◌^◌, min, nat_le, Bool, not, ◌&&◌, ◌||◌, List, [], ◌∷◌, ◌↔◌}
 use Rattle.std.proofs.Common.{refl, sym, ap, ◌∙◌, subst, arith, inl, inr}
 use Rattle.std.specs.declared.cmp.Ordering.{Ordering}
 use Rattle.std.specs.declared.cmp.Ordering.TheVariants.{Less, Equal, Greater}
 use Rattle.std.specs.Ordering.{nat_cmp, match_ordering, MatchOrdering}
 use Rattle.std.proofs.lemmas.Cmp.{ranked}
-use Rattle.po_bases.specs.General.{IsJoin, alone, Surely, surely, surely_tells, le_tells, AtLeast, at_least, pairs, along, renamed, reordered}
+use Rattle.std.proofs.lemmas.Map.Lookups.{exact_unsigned}
+use Rattle.po_bases.specs.General.{IsJoin, alone, surely, surely_tells, le_tells, at_least, pairs, along, renamed, reordered}
 use Rattle.std.specs.Cmp.{nat_cmp_total}
 use Rattle.po_base.specs.declared.numbers.NodeNo.{NodeNo}
 use Rattle.std.specs.Bool.{Decides}
 use Rattle.std.proofs.lemmas.Bool.Decides.{Decides-and}
 use Rattle.po_bases.specs.Maps.{by_order, maps}
 use Rattle.po_bases.specs.BasesLaws.{lesser_is}
-use Rattle.po_bases.specs.Filled.{IsAmong, IsBelowAll, IsAscending, IsFilled, Fills, FilledBelow, common, common_with, join_filled, has_all, filled_within, IsFact, FactBelow, join_facts, fact_within, node_of, IsHeapEntry, HeapEntryBelow, join_heap_entries, IsHeap, HeapBelow, join_heap}
+use Rattle.po_bases.specs.Filled.{IsAmong, IsBelowAll, IsAscending, IsFilled, FilledBelow, common, common_with, join_filled, has_all, filled_within, IsFact, FactBelow, join_facts, fact_within, node_of, IsHeapEntry, HeapEntryBelow, join_heap_entries, IsHeap, HeapBelow, join_heap}
 use Rattle.po_bases.specs.declared.filled.Filled.{Filled}
 use Rattle.po_bases.specs.declared.filled.Filled.TheVariants.{All, Bytes}
 use Rattle.po_bases.specs.declared.heap_fact.HeapFact.{HeapFact}
@@ -23,9 +24,6 @@ is_ranked x y o h = subst (λ v. MatchOrdering v (x < y) (x ≡ y) (y < x)) h (r
 
 pub when_less : (x y : ℕ) → nat_cmp x y ≡ Less → x < y
 when_less x y h = is_ranked x y Less h
-
-pub when_equal : (x y : ℕ) → nat_cmp x y ≡ Equal → x ≡ y
-when_equal x y h = is_ranked x y Equal h
 
 when_greater : (x y : ℕ) → nat_cmp x y ≡ Greater → y < x
 when_greater x y h = is_ranked x y Greater h
@@ -45,7 +43,7 @@ common_here x xs rest ax in_rest [] ay = λ b. (λ h. absurd h, λ h. absurd h.1
 common_here x xs rest ax in_rest (y ∷ ys) ay =
     by_order (AreCommon (x ∷ xs) (y ∷ ys)) (nat_cmp x y) _ _ _
     (λ h b. (λ z. let k = (in_rest (y ∷ ys) ay b).0 z in (inr k.0, k.1), λ k. less (when_less x y h) b k.0 k.1))
-    (λ h b. (λ z. equal_in (when_equal x y h) b z, λ k. equal (when_equal x y h) b k.0 k.1))
+    (λ h b. (λ z. equal_in (exact_unsigned x y h) b z, λ k. equal (exact_unsigned x y h) b k.0 k.1))
     (λ h b. (λ z. let k = (common_here x xs rest ax in_rest ys ay.1 b).0 z in (k.0, inr k.1), λ k. greater (common_here x xs rest ax in_rest ys ay.1) (when_greater x y h) b k.0 k.1)) where
       less : x < y → (b : ℕ) → IsAmong b (x ∷ xs) → IsAmong b (y ∷ ys) → IsAmong b (rest (y ∷ ys))
       less h b (inl same) k = absurd (not_before x y ys h ay.0 (subst (λ v. IsAmong v (y ∷ ys)) (sym same) k))
@@ -158,7 +156,7 @@ heap_entries k =
     HeapEntryBelow (λ x y px py. (λ h. h.1, λ h. (tt, h)))
 
 pub heaps_join : IsJoin IsHeap HeapBelow join_heap
-heaps_join = maps node_of nat_cmp nat_cmp_total when_equal HeapEntryBelow join_heap_entries (λ x y. refl) IsHeapEntry heap_entries
+heaps_join = maps node_of nat_cmp nat_cmp_total exact_unsigned HeapEntryBelow join_heap_entries (λ x y. refl) IsHeapEntry heap_entries
 
 -- ---- the tests tell the orders
 
@@ -195,7 +193,7 @@ tells_all (x ∷ xs) (y ∷ ys) ax ay =
     decided (nat_cmp x y) (HasAll (x ∷ xs) (y ∷ ys)) _ _ _
     (λ h. let later = tells_all xs (y ∷ ys) ax.1 ay in (λ t b k. inr (later.0 t b k), λ all. later.1 (skipped_all x y xs ys (when_less x y h) ay.0 all)))
     (λ h. let later = tells_all xs ys ax.1 ay.1 in
-    (λ t. same_all x y xs ys (when_equal x y h) (later.0 t), λ all. later.1 (rest_all x y xs ys (when_equal x y h) ay.0 all)))
+    (λ t. same_all x y xs ys (exact_unsigned x y h) (later.0 t), λ all. later.1 (rest_all x y xs ys (exact_unsigned x y h) ay.0 all)))
     (λ h. (λ no_test. cc, λ all. absurd (not_before y x xs (when_greater x y h) ax.0 (all y (inl refl)))))
 
 pub filled_tells : (f g : Filled) → IsFilled f → IsFilled g → Decides (filled_within f g) (FilledBelow f g)

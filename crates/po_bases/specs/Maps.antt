@@ -1,5 +1,5 @@
 -- Maps as lists of entries that ascend by key: look-ups, joins of what stands at a key, and their order.
-use Rattle.std.specs.Prelude.{◌≡◌, ℕ, suc, ◌≤◌, Bool, true, false, cond, ◌&&◌, List, [], ◌∷◌, ◌++◌, ◌⊎◌, length, Option, Some, None, IsTrue, ◌↔◌}
+use Rattle.std.specs.Prelude.{◌≡◌, ◌≤◌, Bool, true, false, cond, ◌&&◌, List, [], ◌∷◌, ◌++◌, ◌⊎◌, length, Option, Some, None}
 use Rattle.std.proofs.Common.{refl, sym, ap, ◌∙◌, subst, arith, inl, inr, append-nil}
 use Rattle.std.specs.List.{AllByRecursion}
 use Rattle.std.specs.declared.cmp.Ordering.{Ordering}
@@ -8,6 +8,7 @@ use Rattle.std.specs.Ordering.{is_eq, match_ordering, ordering_reverse}
 use Rattle.std.specs.Cmp.{IsTotalOrder, tied_itself}
 use Rattle.std.specs.Bool.{Decides}
 use Rattle.std.proofs.lemmas.Bool.Decides.{Decides-and}
+use Rattle.po_lists.proofs.Orders.{equal_where_tested}
 use Rattle.po_bases.specs.General.{IsJoin, IfThere, BelowFromNone, either_join, from_none}
 
 -- what both maps have, and the join where both have an entry of one key; `order` compares the keys of two entries
@@ -71,11 +72,6 @@ by_ordering Less P f g h = f refl
 by_ordering Equal P f g h = g refl
 by_ordering Greater P f g h = h refl
 
-tested : (o : Ordering) → is_eq o ≡ true → o ≡ Equal
-tested Less h = cc
-tested Equal h = refl
-tested Greater h = cc
-
 module _ {E K : Type 0} (key : E → K) (cmp : K → K → Ordering) (total : IsTotalOrder cmp) (one : (k l : K) → cmp k l ≡ Equal → k ≡ l) where
   less_turned : (k l : K) → cmp k l ≡ Less → cmp l k ≡ Greater
   less_turned k l h = total.antisymm l k ∙ ap ordering_reverse h
@@ -97,7 +93,7 @@ module _ {E K : Type 0} (key : E → K) (cmp : K → K → Ordering) (total : Is
       rw turned (absent k ys after.1)
 
   absent_at : (k l : K) (xs : List E) → AreAfter key cmp l xs → is_eq (cmp l k) ≡ true → find key cmp xs k ≡ None
-  absent_at k l xs after same = absent k xs (subst (λ v. AreAfter key cmp v xs) (one l k (tested (cmp l k) same)) after)
+  absent_at k l xs after same = absent k xs (subst (λ v. AreAfter key cmp v xs) (one l k (equal_where_tested (cmp l k) same)) after)
 
   -- ---- maps with the same look-ups are the same
 
@@ -325,7 +321,7 @@ module _ {E K : Type 0} (key : E → K) (cmp : K → K → Ordering) (total : Is
   module _ (B : E → E → Type 0) (join : E → E → E) (keeps : (x y : E) → key (join x y) ≡ key x) (Form : E → Type 0)
       (at_key : (k : K) → IsJoin (λ e. (key e ≡ k) × Form e) B join) where
     found_in : (x : E) (n : Option E) (k : K) (b : Bool) → is_eq (cmp (key x) k) ≡ b → Form x → IfThere (λ e. (key e ≡ k) × Form e) n → IfThere (λ e. (key e ≡ k) × Form e) (cond b (Some x) n)
-    found_in x n k true h fx rest = (one (key x) k (tested (cmp (key x) k) h), fx)
+    found_in x n k true h fx rest = (one (key x) k (equal_where_tested (cmp (key x) k) h), fx)
     found_in x n k false h fx rest = rest
 
     pub found_form : (xs : List E) → AllByRecursion Form xs → (k : K) → IfThere (λ e. (key e ≡ k) × Form e) (find key cmp xs k)

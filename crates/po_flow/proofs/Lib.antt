@@ -1,4 +1,3 @@
-pub mod General
 pub mod Placing
 pub mod Listing
 pub mod Sums

@@ -1,6 +1,6 @@
 ghost use Rattle.std.specs.Prelude.{◌≡◌, All, IfOk};
 ghost use Rattle.po_ir.specs.declared.graph.Reg.{Reg as Register};
-ghost use Rattle.po_gen.specs.Asks.{computation as computation_asks, test as test_asks, call as call_asks, why_never as why_never_of, asks as asks_of, place as operand_place};
+ghost use Rattle.po_gen.specs.Asks as rules;
 ghost use Rattle.po_ir.specs.IntTypes.{IsTypeOfTarget, types_in};
 
 use crate::conversions::conversion;
@@ -14,7 +14,7 @@ use po_pred::{Pred, Why};
 use std::alloc::Global;
 
 fn computation(alloc: Global, op: Op, ty: Ty, a: &Opnd, b: &Opnd) -> Result<List<Pred>, Memory>
-    ensures { IfOk result (λ list. list ≡ computation_asks op ty (operand_place a.now) (operand_place b.now)) }
+    ensures { IfOk result (λ list. list ≡ rules.computation op ty (rules.place a.now) (rules.place b.now)) }
 {
     match ty {
         Ty::Int(t) => operator(alloc, op, t, &place(a), &place(b)),
@@ -23,7 +23,7 @@ fn computation(alloc: Global, op: Op, ty: Ty, a: &Opnd, b: &Opnd) -> Result<List
 }
 
 fn test(alloc: Global, op: Op, ty: Ty, a: &Opnd, b: &Opnd) -> Result<List<Pred>, Memory>
-    ensures { IfOk result (λ list. list ≡ test_asks op ty (operand_place a.now) (operand_place b.now)) }
+    ensures { IfOk result (λ list. list ≡ rules.test op ty (rules.place a.now) (rules.place b.now)) }
 {
     match ty {
         Ty::Int(_) => Ok(List::new(alloc)),
@@ -32,7 +32,7 @@ fn test(alloc: Global, op: Op, ty: Ty, a: &Opnd, b: &Opnd) -> Result<List<Pred>,
 }
 
 fn call(alloc: Global, callee: &Callee) -> Result<List<Pred>, Memory>
-    ensures { IfOk result (λ list. list ≡ call_asks callee.now) }
+    ensures { IfOk result (λ list. list ≡ rules.call callee.now) }
 {
     match callee {
         Callee::Fun(_) => Ok(List::new(alloc)),
@@ -41,7 +41,7 @@ fn call(alloc: Global, callee: &Callee) -> Result<List<Pred>, Memory>
 }
 
 fn why_never(reason: Reason) -> Why
-    ensures { result ≡ why_never_of reason }
+    ensures { result ≡ rules.why_never reason }
 {
     match reason {
         Reason::Unread => Why::Unread,
@@ -58,7 +58,7 @@ pub(crate) fn asks<L: Library>(
 ) -> Result<List<Pred>, Memory>
     requires registers { All (λ (r : Register). IsTypeOfTarget r.ty) g.now.regs }
     requires types { All IsTypeOfTarget (types_in instr.now) }
-    ensures { IfOk result (λ list. list ≡ asks_of (L.meaning library.now) g.now instr.now) }
+    ensures { IfOk result (λ list. list ≡ rules.asks (L.meaning library.now) g.now instr.now) }
 {
     match instr {
         Instr::Bin { op, ty, a, b, .. } => computation(alloc, *op, *ty, a, b),

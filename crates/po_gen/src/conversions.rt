@@ -1,7 +1,7 @@
 ghost use Rattle.std.specs.Prelude.{◌≡◌, All, IfOk};
 ghost use Rattle.po_arith.specs.Types.{IsIntType};
 ghost use Rattle.po_ir.specs.declared.graph.Reg.{Reg as Register};
-ghost use Rattle.po_gen.specs.Asks.{is_of_type as is_number_of_type, keeps_type as keeps_every_value, keeps as keeps_operand, in_type as lies_in_type, conversion as conversion_asks};
+ghost use Rattle.po_gen.specs.Asks as rules;
 ghost use Rattle.po_ir.specs.IntTypes.{IsTypeOfTarget};
 
 use crate::places::place;
@@ -13,7 +13,7 @@ use std::alloc::Global;
 
 fn is_of_type(t: IntType, v: i128) -> bool
     requires { IsIntType t }
-    ensures { result ≡ is_number_of_type t v }
+    ensures { result ≡ rules.is_of_type t v }
 {
     let numbers = limits(t);
     numbers.lo <= v && v <= numbers.hi
@@ -22,7 +22,7 @@ fn is_of_type(t: IntType, v: i128) -> bool
 fn keeps_type(t: IntType, ty: Ty) -> bool
     requires target { IsIntType t }
     requires source { IsTypeOfTarget ty }
-    ensures { result ≡ keeps_every_value t ty }
+    ensures { result ≡ rules.keeps_type t ty }
 {
     match ty {
         Ty::Int(source) => {
@@ -37,7 +37,7 @@ fn keeps_type(t: IntType, ty: Ty) -> bool
 fn keeps(g: &Graph, t: IntType, operand: &Opnd) -> bool
     requires target { IsIntType t }
     requires registers { All (λ (r : Register). IsTypeOfTarget r.ty) g.now.regs }
-    ensures { result ≡ keeps_operand g.now t operand.now }
+    ensures { result ≡ rules.keeps g.now t operand.now }
 {
     match *operand {
         Opnd::Reg(register) => match g.regs.get(register.0 as usize) {
@@ -50,7 +50,7 @@ fn keeps(g: &Graph, t: IntType, operand: &Opnd) -> bool
 
 fn in_type(t: IntType, a: &Place) -> Pred
     requires { IsIntType t }
-    ensures { result ≡ lies_in_type t a.now }
+    ensures { result ≡ rules.in_type t a.now }
 {
     let numbers = limits(t);
     Pred::IntIn {
@@ -70,7 +70,7 @@ pub(crate) fn conversion(
 ) -> Result<List<Pred>, Memory>
     requires target { IsTypeOfTarget ty }
     requires registers { All (λ (r : Register). IsTypeOfTarget r.ty) g.now.regs }
-    ensures { IfOk result (λ list. list ≡ conversion_asks g.now from.now ty align) }
+    ensures { IfOk result (λ list. list ≡ rules.conversion g.now from.now ty align) }
 {
     let mut list = List::new(alloc);
     match ty {

@@ -1,6 +1,6 @@
 ghost use Rattle.std.specs.Prelude.{◌≡◌, ◌++◌, [], ◌∷◌, IfOk, OnOk};
 ghost use Rattle.po_pred.specs.declared.pred.Over.TheVariants as over;
-ghost use Rattle.po_gen.specs.Asks.{overflow as overflow_asks, division as division_asks, count as count_asks, operator as operator_asks, sign as sign_asks};
+ghost use Rattle.po_gen.specs.Asks as rules;
 
 use po_arith::IntType;
 use po_base::{List, Memory, Op, UnOp};
@@ -15,7 +15,7 @@ fn add_overflow(
     a: &Place,
     b: &Place,
 ) -> Result<(), Memory>
-    ensures { OnOk result (list.new ≡ list.old ++ overflow_asks op t a.now b.now) }
+    ensures { OnOk result (list.new ≡ list.old ++ rules.overflow op t a.now b.now) }
 {
     if t.signed {
         list.push(Pred::NoOver {
@@ -29,7 +29,7 @@ fn add_overflow(
 }
 
 fn overflow(alloc: Global, op: Over, t: IntType, a: &Place, b: &Place) -> Result<List<Pred>, Memory>
-    ensures { IfOk result (λ list. list ≡ overflow_asks op t a.now b.now) }
+    ensures { IfOk result (λ list. list ≡ rules.overflow op t a.now b.now) }
 {
     let mut list = List::new(alloc);
     add_overflow(&mut list, op, t, a, b)?;
@@ -37,7 +37,7 @@ fn overflow(alloc: Global, op: Over, t: IntType, a: &Place, b: &Place) -> Result
 }
 
 fn division(alloc: Global, op: Over, t: IntType, a: &Place, b: &Place) -> Result<List<Pred>, Memory>
-    ensures { IfOk result (λ list. list ≡ division_asks op t a.now b.now) }
+    ensures { IfOk result (λ list. list ≡ rules.division op t a.now b.now) }
 {
     let mut list = List::new(alloc);
     list.push(Pred::Nonzero { x: *b })?;
@@ -46,7 +46,7 @@ fn division(alloc: Global, op: Over, t: IntType, a: &Place, b: &Place) -> Result
 }
 
 fn count(t: IntType, b: &Place) -> Pred
-    ensures { result ≡ count_asks t b.now }
+    ensures { result ≡ rules.count t b.now }
 {
     Pred::IntIn {
         x: *b,
@@ -56,7 +56,7 @@ fn count(t: IntType, b: &Place) -> Pred
 }
 
 fn shift_left(alloc: Global, t: IntType, a: &Place, b: &Place) -> Result<List<Pred>, Memory>
-    ensures { IfOk result (λ list. list ≡ count_asks t b.now ∷ overflow_asks over.Shl t a.now b.now) }
+    ensures { IfOk result (λ list. list ≡ rules.count t b.now ∷ rules.overflow over.Shl t a.now b.now) }
 {
     let mut list = List::new(alloc);
     list.push(count(t, b))?;
@@ -81,7 +81,7 @@ pub(crate) fn operator(
     a: &Place,
     b: &Place,
 ) -> Result<List<Pred>, Memory>
-    ensures { IfOk result (λ list. list ≡ operator_asks op t a.now b.now) }
+    ensures { IfOk result (λ list. list ≡ rules.operator op t a.now b.now) }
 {
     match op {
         Op::Add => overflow(alloc, Over::Add, t, a, b),
@@ -97,7 +97,7 @@ pub(crate) fn operator(
 
 /// What an operator on one number asks. In constant time.
 pub(crate) fn sign(alloc: Global, op: UnOp, t: IntType, a: &Place) -> Result<List<Pred>, Memory>
-    ensures { IfOk result (λ list. list ≡ sign_asks op t a.now) }
+    ensures { IfOk result (λ list. list ≡ rules.sign op t a.now) }
 {
     match op {
         UnOp::Neg if t.signed => only(

@@ -1,12 +1,12 @@
 ghost use Rattle.std.specs.Prelude.{◌≡◌};
-ghost use Rattle.po_gen.specs.Asks.{number as number_place, place as operand_place};
+ghost use Rattle.po_gen.specs.Asks as rules;
 
 use po_base::Opnd;
 use po_pred::{Atom, Place};
 
 /// A number.
 pub(crate) fn number(n: i128) -> Place
-    ensures { result ≡ number_place n }
+    ensures { result ≡ rules.number n }
 {
     Place {
         atom: None,
@@ -17,7 +17,7 @@ pub(crate) fn number(n: i128) -> Place
 
 /// The value of an operand.
 pub(crate) fn place(operand: &Opnd) -> Place
-    ensures { result ≡ operand_place operand.now }
+    ensures { result ≡ rules.place operand.now }
 {
     match *operand {
         Opnd::Reg(register) => Place {

@@ -1,5 +1,5 @@
 ghost use Rattle.std.specs.Prelude.{◌≡◌, ◌++◌, IfOk, OnOk};
-ghost use Rattle.po_gen.specs.Asks.{spans as spans_asks, is_filled as is_filled_asks, alignment as alignment_asks, move as move_asks, pair as pair_asks, comparison as comparison_asks, object as object_asks, load as load_asks, store as store_asks, objects as objects_asks, copy as copy_asks};
+ghost use Rattle.po_gen.specs.Asks as rules;
 
 use crate::places::number;
 use po_base::{List, Memory, Op};
@@ -8,7 +8,7 @@ use po_pred::{Place, Pred};
 use std::alloc::Global;
 
 fn spans(p: &Place, size: u64) -> Pred
-    ensures { result ≡ spans_asks p.now size }
+    ensures { result ≡ rules.spans p.now size }
 {
     Pred::Span {
         p: *p,
@@ -19,7 +19,7 @@ fn spans(p: &Place, size: u64) -> Pred
 }
 
 fn is_filled(p: &Place, size: u64) -> Pred
-    ensures { result ≡ is_filled_asks p.now size }
+    ensures { result ≡ rules.is_filled p.now size }
 {
     Pred::Filled {
         p: *p,
@@ -30,7 +30,7 @@ fn is_filled(p: &Place, size: u64) -> Pred
 }
 
 fn add_alignment(list: &mut List<Pred>, p: &Place, align: u64) -> Result<(), Memory>
-    ensures { OnOk result (list.new ≡ list.old ++ alignment_asks p.now align) }
+    ensures { OnOk result (list.new ≡ list.old ++ rules.alignment p.now align) }
 {
     if align > 1 {
         list.push(Pred::Aligned { p: *p, a: align })?;
@@ -45,7 +45,7 @@ pub(crate) fn moving(
     index: &Place,
     factor: i64,
 ) -> Result<List<Pred>, Memory>
-    ensures { IfOk result (λ list. list ≡ move_asks p.now index.now factor) }
+    ensures { IfOk result (λ list. list ≡ rules.move p.now index.now factor) }
 {
     let mut list = List::new(alloc);
     list.push(Pred::NotNull { p: *p })?;
@@ -61,7 +61,7 @@ pub(crate) fn moving(
 
 /// What two pointers that have to point into one object ask. In constant time.
 pub(crate) fn pair(alloc: Global, a: &Place, b: &Place) -> Result<List<Pred>, Memory>
-    ensures { IfOk result (λ list. list ≡ pair_asks a.now b.now) }
+    ensures { IfOk result (λ list. list ≡ rules.pair a.now b.now) }
 {
     let mut list = List::new(alloc);
     list.push(Pred::NotNull { p: *a })?;
@@ -74,7 +74,7 @@ pub(crate) fn pair(alloc: Global, a: &Place, b: &Place) -> Result<List<Pred>, Me
 
 /// What a comparison of pointers asks. In constant time.
 pub(crate) fn comparison(alloc: Global, op: Op, a: &Place, b: &Place) -> Result<List<Pred>, Memory>
-    ensures { IfOk result (λ list. list ≡ comparison_asks op a.now b.now) }
+    ensures { IfOk result (λ list. list ≡ rules.comparison op a.now b.now) }
 {
     match op {
         Op::Lt | Op::Le | Op::Gt | Op::Ge => pair(alloc, a, b),
@@ -83,7 +83,7 @@ pub(crate) fn comparison(alloc: Global, op: Op, a: &Place, b: &Place) -> Result<
 }
 
 fn object(alloc: Global, p: &Place, access: &Access) -> Result<List<Pred>, Memory>
-    ensures { IfOk result (λ list. list ≡ object_asks p.now access.now.size access.now.align) }
+    ensures { IfOk result (λ list. list ≡ rules.object p.now access.now.size access.now.align) }
 {
     let mut list = List::new(alloc);
     list.push(Pred::NotNull { p: *p })?;
@@ -95,7 +95,7 @@ fn object(alloc: Global, p: &Place, access: &Access) -> Result<List<Pred>, Memor
 
 /// What a reading access asks. In constant time.
 pub(crate) fn load(alloc: Global, p: &Place, access: &Access) -> Result<List<Pred>, Memory>
-    ensures { IfOk result (λ list. list ≡ load_asks p.now access.now) }
+    ensures { IfOk result (λ list. list ≡ rules.load p.now access.now) }
 {
     let mut list = object(alloc, p, access)?;
     list.push(is_filled(p, access.size))?;
@@ -104,7 +104,7 @@ pub(crate) fn load(alloc: Global, p: &Place, access: &Access) -> Result<List<Pre
 
 /// What a writing access asks. In constant time.
 pub(crate) fn store(alloc: Global, p: &Place, access: &Access) -> Result<List<Pred>, Memory>
-    ensures { IfOk result (λ list. list ≡ store_asks p.now access.now) }
+    ensures { IfOk result (λ list. list ≡ rules.store p.now access.now) }
 {
     let mut list = object(alloc, p, access)?;
     list.push(Pred::Writable { p: *p })?;
@@ -113,7 +113,7 @@ pub(crate) fn store(alloc: Global, p: &Place, access: &Access) -> Result<List<Pr
 
 /// What two objects of a copy ask, before their alignments.
 fn objects(alloc: Global, p: &Place, q: &Place, size: u64) -> Result<List<Pred>, Memory>
-    ensures { IfOk result (λ list. list ≡ objects_asks p.now q.now size) }
+    ensures { IfOk result (λ list. list ≡ rules.objects p.now q.now size) }
 {
     let mut list = List::new(alloc);
     list.push(Pred::NotNull { p: *p })?;
@@ -133,7 +133,7 @@ pub(crate) fn copy(
     size: u64,
     align: u64,
 ) -> Result<List<Pred>, Memory>
-    ensures { IfOk result (λ list. list ≡ copy_asks p.now q.now size align) }
+    ensures { IfOk result (λ list. list ≡ rules.copy p.now q.now size align) }
 {
     let mut list = objects(alloc, p, q, size)?;
     add_alignment(&mut list, p, align)?;

@@ -1,7 +1,8 @@
 ghost use Rattle.std.specs.Prelude.{◌≡◌, ◌∷◌, [], IfOk, OnOk};
 ghost use Rattle.std.specs.Option.{option_copied};
 ghost use Rattle.po_ir.specs.Instructions.{operands};
-ghost use Rattle.po_gen.specs.Reads.{is_variable as is_variable_register, variable_in, variables_read, reads as reads_of};
+ghost use Rattle.po_gen.specs.Reads.{variable_in, variables_read};
+ghost use Rattle.po_gen.specs.Reads as reading;
 ghost use Rattle.po_gen.specs.Seen.{Goes};
 
 use po_base::{List, Memory, Opnd, OrdList, RegNo};
@@ -10,7 +11,7 @@ use po_pred::Pred;
 use std::alloc::Global;
 
 fn is_variable(register: Option<&Reg>) -> bool
-    ensures { result ≡ is_variable_register (option_copied register.entry) }
+    ensures { result ≡ reading.is_variable (option_copied register.entry) }
 {
     match register {
         Some(register) => !register.param && register.name.is_some(),
@@ -81,7 +82,7 @@ fn variables_of(alloc: Global, g: &Graph, instr: &Instr) -> Result<List<RegNo>, 
 /// That the register variables which the instruction reads have values. In time in the number of its operands times its
 /// logarithm.
 pub(crate) fn reads(alloc: Global, g: &Graph, instr: &Instr) -> Result<List<Pred>, Memory>
-    ensures { IfOk result (λ list. list ≡ reads_of g.now instr.now) }
+    ensures { IfOk result (λ list. list ≡ reading.reads g.now instr.now) }
 {
     let variables = variables_of(alloc, g, instr)?;
     let mut list = List::new(alloc);

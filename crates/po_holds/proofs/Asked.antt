@@ -5,6 +5,7 @@ use Rattle.std.proofs.lemmas.Int.{ints, by_lt_z}
 use Rattle.std.proofs.lemmas.Bool.{cases_lt}
 use Rattle.std.proofs.lemmas.Option.{slice_get_past}
 use Rattle.std.proofs.Math.IntN.{*ℤ_comm}
+use Rattle.po_lists.proofs.Integers.{distributes_over, times_neg}
 use Rattle.po_arith.proofs.Products.{times_up as times_natural}
 use Rattle.po_memory.specs.declared.block.Block.{Block}
 use Rattle.po_memory.specs.declared.value.Byte.{Byte}
@@ -18,7 +19,6 @@ use Rattle.po_holds.specs.declared.choosing.Pointers.{Pointers}
 use Rattle.po_holds.specs.declared.asking.End.{End}
 use Rattle.po_holds.specs.Choosing.{IsOneOf, AreSome, EachMoved, least, greatest}
 use Rattle.po_holds.specs.Asking.{EachScaled, EachInside, IsLeast, IsGreatest, place_of}
-use Rattle.po_holds.proofs.Products.{distributes_over, times_neg}
 use Rattle.po_holds.proofs.Sums.{tells_not}
 use Rattle.po_holds.proofs.Telling.{not_tells}
 

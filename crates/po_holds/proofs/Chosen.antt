@@ -2,10 +2,11 @@
 use Rattle.std.proofs.Common.{◌≡◌, sym, ap, ◌∙◌, subst, refl, arith}
 use Rattle.std.specs.Prelude.{ℤ, pos, ◌+ℤ◌, ◌↔◌, Bool, true, false, IsTrue, Option, Some, None}
 use Rattle.std.proofs.lemmas.Int.{ints}
+use Rattle.std.proofs.lemmas.Option.{same_Some}
+use Rattle.po_memory.proofs.General.{one_number}
 use Rattle.po_pred.specs.declared.pred.Place.{Place}
 use Rattle.po_memory.specs.declared.frame.Frame.{Frame}
 use Rattle.po_memory.specs.declared.value.Value.{Value}
-use Rattle.po_memory.specs.declared.value.Value.TheVariants.{Number}
 use Rattle.po_memory.specs.Values.{moved, ChoosesPointer, ChoosesNumber, EachPointer, EachNumber, EachSecond}
 use Rattle.po_holds.specs.declared.choosing.Numbers.{Numbers}
 use Rattle.po_holds.specs.declared.choosing.Pointers.{Pointers}
@@ -16,12 +17,6 @@ through p q = (λ a. q.0 (p.0 a), λ c. p.1 (q.1 c))
 
 pub turned : {A B : Type 0} → (A ↔ B) → (B ↔ A)
 turned p = (p.1, p.0)
-
-some_number : (u v : ℤ) → Some (Number u) ≡ Some (Number v) → u ≡ v
-some_number u v e = cc
-
-some_value : (u v : Value) → Some u ≡ Some v → u ≡ v
-some_value u v e = cc
 
 -- ---- numbers
 
@@ -37,7 +32,7 @@ module _ (f : Frame) (x : Place) (P : ℤ → Type 0) where
     where
       chosen : (z : ℤ) → ChoosesNumber f x z → P z
       chosen z (u, base, low, high) =
-          let same : u ≡ r.base = some_number u r.base (sym base ∙ are.base) in
+          let same : u ≡ r.base = one_number u r.base (sym base ∙ are.base) in
           let at_lo = are.lo in
           let at_hi = are.hi in
           g z (omega (arith, ints), omega (arith, ints))
@@ -92,7 +87,7 @@ module _ (f : Frame) (p : Place) (P : Value → Type 0) where
     where
       chosen : (v : Value) → ChoosesPointer f p v → P v
       chosen v (u, n, base, low, high, is) =
-          let same : u ≡ r.base = some_value u r.base (sym base ∙ are.base) in
+          let same : u ≡ r.base = same_Some u r.base (sym base ∙ are.base) in
           let at_lo = are.lo in
           let at_hi = are.hi in
           subst P (sym (is ∙ ap (λ b. moved b n) same)) (g n (omega (arith, ints)) (omega (arith, ints)))

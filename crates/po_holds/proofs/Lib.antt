@@ -1,5 +1,4 @@
 pub mod Telling
-pub mod Products
 pub mod Sums
 pub mod Chosen
 pub mod Asked

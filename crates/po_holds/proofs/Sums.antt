@@ -4,12 +4,12 @@ use Rattle.std.specs.Prelude.{ℤ, pos, negsuc, neg_ℤ, ◌+ℤ◌, ◌-ℤ◌,
 use Rattle.std.specs.Int.{int_shr, w128}
 use Rattle.std.proofs.lemmas.Int.{ints, by_lt_z}
 use Rattle.std.proofs.Math.IntN.{*ℤ_comm}
+use Rattle.po_lists.proofs.Integers.{distributes, distributes_over, regrouped}
 use Rattle.po_arith.proofs.Shifted.{shifted}
 use Rattle.po_memory.proofs.General.{drop_at}
 use Rattle.po_holds.specs.declared.exact.Digits.{Digits}
 use Rattle.po_holds.specs.declared.exact.Exact.{Exact}
 use Rattle.po_holds.specs.Exact.{total, IsUpTo, IsDigit, AreDigits, number, whole, IsAfter, AreAfter}
-use Rattle.po_holds.proofs.Products.{distributes, distributes_over, regrouped}
 
 -- ---- a number's digits
 

@@ -7,6 +7,7 @@ use Rattle.std.proofs.lemmas.Int.{ints, clamps, by_lt_z, to_z_pos}
 use Rattle.std.proofs.lemmas.Nat.{pow-add, pow_pos, pow_below}
 use Rattle.std.proofs.lemmas.Bool.{cases_lt}
 use Rattle.std.proofs.Math.Nat.{mul-le-mul_right, mul-le-mul_left, mod-eq_of_lt}
+use Rattle.po_lists.proofs.Integers.{distributes, distributes_over, times_neg}
 use Rattle.po_pred.specs.declared.pred.Over.TheVariants.{Add, Sub, Mul, Div, Shl, Neg}
 use Rattle.po_arith.specs.Ranges.{range}
 use Rattle.po_arith.proofs.Powers.{pow_up}
@@ -16,7 +17,6 @@ use Rattle.po_holds.specs.declared.choosing.Numbers.{Numbers}
 use Rattle.po_holds.specs.declared.over.Power.{Power}
 use Rattle.po_holds.specs.Choosing.{IsOneOf, AreSome, least, greatest}
 use Rattle.po_holds.specs.Over.{EachOne, EachStays, EndsStay, minus, IsPower}
-use Rattle.po_holds.proofs.Products.{distributes, distributes_over, times_neg}
 use Rattle.po_holds.proofs.Sums.{tells_not}
 
 -- 1 shifted to the left

@@ -25,6 +25,7 @@ pub use laws::{
 };
 pub use members::{Members, join_members, members_within};
 pub use operations::{bin_interval, un_interval};
+pub use results::{binary, conv, unary};
 pub use rounding::round;
 pub use thresholds::Thresholds;
 pub use within::interval_within;

@@ -31,7 +31,7 @@ fn modulo(t: IntType, v: i128) -> i128
 
 /// What a conversion to the type gives: to a signed one the number where it fits, to an unsigned one the
 /// number modulo 2 to its width (C99 6.3.1.3).
-pub(crate) fn conv(t: IntType, v: i128) -> Option<i128>
+pub fn conv(t: IntType, v: i128) -> Option<i128>
     requires { IsIntType t }
     ensures { result ≡ results.conv t v }
 {
@@ -157,7 +157,7 @@ fn compared(t: IntType, holds: bool) -> Option<i128>
 
 /// What `v op w` gives of numbers of the type, and `None` where C99 leaves it undefined (6.5.5 to 6.5.12). How
 /// far to shift is any number.
-pub(crate) fn binary(op: Op, t: IntType, v: i128, w: i128) -> Option<i128>
+pub fn binary(op: Op, t: IntType, v: i128, w: i128) -> Option<i128>
     requires t { IsIntType t }
     requires v { IsOfType t v }
     requires w { takes_count op ≡ false → IsOfType t w }
@@ -195,7 +195,7 @@ fn un_exact(op: UnOp, t: IntType, v: i128) -> i128
 }
 
 /// What `-v` or `~v` gives of a number of the type, and `None` where C99 leaves it undefined (6.5.3.3).
-pub(crate) fn unary(op: UnOp, t: IntType, v: i128) -> Option<i128>
+pub fn unary(op: UnOp, t: IntType, v: i128) -> Option<i128>
     requires t { IsIntType t }
     requires v { IsOfType t v }
     ensures { result ≡ results.unary op t v }

@@ -1,6 +1,6 @@
 -- Facts on lists that speak of no graph.
-use Rattle.std.proofs.Common.{◌≡◌, ℕ, zero, suc, ◌+◌, ◌<◌, List, [], ◌∷◌, ◌++◌, length, map, get_or, take, refl, ◌⊎◌, inl, inr, ap, sym, ◌∙◌, append_assoc, arith, subst, Bool, true, false, cond}
-use Rattle.std.specs.Prelude.{Some, Result, Ok, Err, IfOk, OnOk, slice_get, Contains}
+use Rattle.std.proofs.Common.{◌≡◌, ℕ, zero, suc, ◌+◌, ◌<◌, List, [], ◌∷◌, ◌++◌, length, get_or, take, refl, inl, inr, ap, sym, ◌∙◌, append_assoc, arith, subst, Bool, true, false, cond}
+use Rattle.std.specs.Prelude.{Some, slice_get, Contains}
 use Rattle.std.proofs.lemmas.List.Elements.{Contains-append_left, Contains-append_right, Contains-append_cases, Contains-push_cases}
 use Rattle.std.proofs.lemmas.List.{append-nil}
 use Rattle.po_ir.specs.General.{each_from}
@@ -39,46 +39,6 @@ pub each_from-onto-at : {X Y : Type 0} (f : ℕ → X → List Y) (xs : List X) 
 each_from-onto-at f xs i j d first before after below same so_far appended =
     appended ∙ ap (λ z. z ++ f j (get_or xs i d)) so_far ∙ append_assoc first _ _ ∙ ap (λ k. first ++ (each_from f 0 (take i xs) ++ f k (get_or xs i d))) same ∙ ap (λ z. first ++ z) (sym (each_from-take f xs i d below))
 
-pub below_length : {X : Type 0} (xs : List X) (i : ℕ) (x : X) → slice_get xs i ≡ Some x → i < length xs
-below_length [] i x h = absurd (cc)
-below_length (y ∷ ys) zero x h = omega arith
-below_length (y ∷ ys) (suc i) x h = let r = below_length ys i x h in omega arith
-
-pub item_there : {X : Type 0} (xs : List X) (i : ℕ) → i < length xs → (x : X) × (slice_get xs i ≡ Some x)
-item_there [] i h = absurd (omega arith)
-item_there (x ∷ xs) zero h = (x, refl)
-item_there (x ∷ xs) (suc i) h = item_there xs i (omega arith)
-
-pub item_is : {X : Type 0} (xs : List X) (i : ℕ) (d : X) → i < length xs → slice_get xs i ≡ Some (get_or xs i d)
-item_is [] i d h = absurd (omega arith)
-item_is (x ∷ xs) zero d h = refl
-item_is (x ∷ xs) (suc i) d h = item_is xs i d (omega arith)
-
-pub item_made : {X Y : Type 0} (f : X → Y) (xs : List X) (i : ℕ) (x : X) → slice_get xs i ≡ Some x → slice_get (map f xs) i ≡ Some (f x)
-item_made f [] i x h = absurd (cc)
-item_made f (y ∷ ys) zero x h = ap (λ z. Some (f z)) (same_item y x h)
-  where
-    same_item : {X : Type 0} (a b : X) → Some a ≡ Some b → a ≡ b
-    same_item a b e = cc
-item_made f (y ∷ ys) (suc i) x h = item_made f ys i x h
-
-pub item_made_from : {X Y : Type 0} (f : X → Y) (xs : List X) (i : ℕ) (y : Y) → slice_get (map f xs) i ≡ Some y → (x : X) × (slice_get xs i ≡ Some x) × (f x ≡ y)
-item_made_from f [] i y h = absurd (cc)
-item_made_from f (x ∷ xs) zero y h = (x, refl, cc)
-item_made_from f (x ∷ xs) (suc i) y h = item_made_from f xs i y h
-
--- an item of a list with one more is one of the list, or the last
-pub item_pushed : {X : Type 0} (xs : List X) (y : X) (k : ℕ) (x : X) → slice_get (xs ++ y ∷ []) k ≡ Some x → (slice_get xs k ≡ Some x) ⊎ ((k ≡ length xs) × (y ≡ x))
-item_pushed [] y zero x h = inr (refl, cc)
-item_pushed [] y (suc k) x h = absurd (cc)
-item_pushed (z ∷ zs) y zero x h = inl h
-item_pushed (z ∷ zs) y (suc k) x h = elim (item_pushed zs y k x h) [ inl a ↦ inl a | inr b ↦ inr (ap suc b.0, b.1) ]
-
--- what follows from what holds of the value
-pub if_ok-map : {T E : Type 0} {P Q : T → Type 0} (r : Result T E) → ((x : T) → P x → Q x) → IfOk r P → IfOk r Q
-if_ok-map (Ok x) f h = f x h
-if_ok-map (Err e) f h = tt
-
 -- what is made of an item is among what is made of all
 pub into_each : {X Y : Type 0} (f : ℕ → X → List Y) (n : ℕ) (xs : List X) (i : ℕ) (x : X) (y : Y) → slice_get xs i ≡ Some x → Contains (f (n + i) x) y → Contains (each_from f n xs) y
 into_each f n [] i x y e h = absurd (cc)
@@ -106,8 +66,3 @@ from_each f n (z ∷ zs) y c =
 pub alone : {X : Type 0} (b : Bool) (x y : X) → Contains (cond b (x ∷ []) []) y → (b ≡ true) × (x ≡ y)
 alone true x y c = elim (Contains-push_cases [] x y c) [ inl h ↦ absurd (let l = h.1 in omega arith) | inr e ↦ (refl, e) ]
 alone false x y c = absurd (let h = c.1 in omega arith)
-
--- what follows where there is a value
-pub on_ok-map : {T E : Type 0} {P Q : Type 0} (r : Result T E) → (P → Q) → OnOk r P → OnOk r Q
-on_ok-map (Ok x) f h = f h
-on_ok-map (Err e) f h = tt

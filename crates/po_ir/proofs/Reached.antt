@@ -2,6 +2,7 @@
 use Rattle.std.proofs.Common.{◌≡◌, ◌≢◌, ℕ, zero, suc, ◌+◌, ◌<◌, List, [], ◌∷◌, ◌++◌, Bool, true, false, length, map, replicate, get_or, refl, ap, sym, ◌∙◌, subst, ◌⊎◌, inl, inr, arith}
 use Rattle.std.specs.Prelude.{Some, Contains, slice_get, slice_set}
 use Rattle.std.proofs.lemmas.List.Elements.{Contains-append_left, Contains-append_right, Contains-append_cases, Contains-push_cases}
+use Rattle.std.proofs.lemmas.Option.{slice_get_within}
 use Rattle.po_base.specs.declared.numbers.FunNo.{FunNo}
 use Rattle.po_base.specs.declared.numbers.NodeNo.{NodeNo}
 use Rattle.po_ir.specs.General.{each_from}
@@ -22,11 +23,6 @@ pub record Visiting (callers : List Sites) (here marks : List Bool) (stack : Lis
   pub pending : (f : FunNo) → Contains stack f → Leads callers here f.0
   pub base : (f : ℕ) → f < length here → IsMarked here f → IsKnown marks stack f
   pub closed : (f g : ℕ) (sites : Sites) (n : NodeNo) → f < length here → slice_get callers g ≡ Some sites → Contains sites (record { 0 = f }, n) → IsMarked marks g → IsKnown marks stack f
-
-below : {X : Type 0} (xs : List X) (i : ℕ) (x : X) → slice_get xs i ≡ Some x → i < length xs
-below [] i x h = absurd (cc)
-below (y ∷ ys) zero x h = omega arith
-below (y ∷ ys) (suc i) x h = let r = below ys i x h in omega arith
 
 no_mark : (n f : ℕ) → IsMarked (replicate n false) f → ⊥
 no_mark zero f h = cc
@@ -198,4 +194,4 @@ visited callers here marks stack many v none = record {
 
     all : (f : ℕ) → Leads callers here f → f < length here → IsMarked marks f
     all f (itself g m) h = known g (v.base g h m)
-    all f (through g k sites n l c rest) h = known g (v.closed g k sites n h l c (all k rest (let w = below callers k sites l in omega (arith, many))))
+    all f (through g k sites n l c rest) h = known g (v.closed g k sites n h l c (all k rest (let w = slice_get_within callers k sites l in omega (arith, many))))

@@ -1,5 +1,6 @@
 ghost use Rattle.std.specs.Prelude.{◌≡◌, ◌++◌, [], ◌∷◌, ◌==◌, cond, length, replicate, IfOk, OnOk};
-ghost use Rattle.po_ir.specs.Calls.{is_call_of as is_call_of_function, node_call, function_calls, call_sites as call_sites_of};
+ghost use Rattle.po_ir.specs.Calls.{node_call, function_calls};
+ghost use Rattle.po_ir.specs.Calls as calls;
 ghost use Rattle.po_ir.specs.Callers.{AreCallers, Gains};
 
 use crate::graph::Node;
@@ -23,7 +24,7 @@ pub fn counted(place: usize) -> Result<u32, Memory>
 }
 
 fn is_call_of(callee: FunNo, instr: &Instr) -> bool
-    ensures { result ≡ is_call_of_function callee instr.now }
+    ensures { result ≡ calls.is_call_of callee instr.now }
 {
     match instr {
         Instr::Call {
@@ -70,7 +71,7 @@ pub fn call_sites(
     project: &Project,
     callee: FunNo,
 ) -> Result<List<(FunNo, NodeNo)>, Memory>
-    ensures { IfOk result (λ sites. sites ≡ call_sites_of project.now callee) }
+    ensures { IfOk result (λ sites. sites ≡ calls.call_sites project.now callee) }
 {
     let mut sites = List::new(alloc);
     for (place, function) in project.functions.as_slice().iter().enumerate() {

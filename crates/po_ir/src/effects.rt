@@ -1,5 +1,6 @@
 ghost use Rattle.std.specs.Prelude.{◌≡◌, ◌==◌, length, map, IfOk, slice_get};
-ghost use Rattle.po_ir.specs.Reaching.{effects_in, frees_here as instruction_frees, writes_here as instruction_writes, does, AreReaching, AreEffects};
+ghost use Rattle.po_ir.specs.Reaching.{effects_in, does, AreReaching, AreEffects};
+ghost use Rattle.po_ir.specs.Reaching as effect;
 ghost use Rattle.po_ir.specs.Paired.{ArePaired};
 ghost use Rattle.po_ir.specs.declared.instr.Instr.{Instr as Instruction};
 ghost use Rattle.std.specs.Prelude.{Bool};
@@ -25,7 +26,7 @@ fn library_effects(library: &BTreeMap<u32, Effects>, lib: LibNo) -> Effects
 }
 
 fn frees_here(library: &BTreeMap<u32, Effects>, instr: &Instr) -> bool
-    ensures { result ≡ instruction_frees (effects_in library.now) instr.now }
+    ensures { result ≡ effect.frees_here (effects_in library.now) instr.now }
 {
     match instr {
         Instr::Lib { lib, .. } => library_effects(library, *lib).frees,
@@ -41,7 +42,7 @@ fn frees_here(library: &BTreeMap<u32, Effects>, instr: &Instr) -> bool
 }
 
 fn writes_here(library: &BTreeMap<u32, Effects>, instr: &Instr) -> bool
-    ensures { result ≡ instruction_writes (effects_in library.now) instr.now }
+    ensures { result ≡ effect.writes_here (effects_in library.now) instr.now }
 {
     match instr {
         Instr::Store { .. } => true,
@@ -60,14 +61,14 @@ fn writes_here(library: &BTreeMap<u32, Effects>, instr: &Instr) -> bool
 }
 
 fn frees_itself(library: &BTreeMap<u32, Effects>, function: &Function) -> bool
-    ensures { result ≡ does (instruction_frees (effects_in library.now)) function.now }
+    ensures { result ≡ does (effect.frees_here (effects_in library.now)) function.now }
 {
     let nodes = function.graph.nodes.as_slice();
     nodes.iter().any(|node| frees_here(library, &node.instr))
 }
 
 fn writes_itself(library: &BTreeMap<u32, Effects>, function: &Function) -> bool
-    ensures { result ≡ does (instruction_writes (effects_in library.now)) function.now }
+    ensures { result ≡ does (effect.writes_here (effects_in library.now)) function.now }
 {
     let nodes = function.graph.nodes.as_slice();
     nodes.iter().any(|node| writes_here(library, &node.instr))
@@ -79,7 +80,7 @@ fn freeing(
     library: &BTreeMap<u32, Effects>,
     functions: &[Function],
 ) -> Result<List<bool>, Memory>
-    ensures { IfOk result (λ here. here ≡ map (does (instruction_frees (effects_in library.now))) functions.now) }
+    ensures { IfOk result (λ here. here ≡ map (does (effect.frees_here (effects_in library.now))) functions.now) }
 {
     let mut here = List::new(alloc);
     for function in functions {
@@ -94,7 +95,7 @@ fn writing(
     library: &BTreeMap<u32, Effects>,
     functions: &[Function],
 ) -> Result<List<bool>, Memory>
-    ensures { IfOk result (λ here. here ≡ map (does (instruction_writes (effects_in library.now))) functions.now) }
+    ensures { IfOk result (λ here. here ≡ map (does (effect.writes_here (effects_in library.now))) functions.now) }
 {
     let mut here = List::new(alloc);
     for function in functions {

@@ -1,5 +1,6 @@
 ghost use Rattle.std.specs.Prelude.{◌≡◌, ◌<◌, ◌↔◌, IsTrue, All, length};
-ghost use Rattle.po_ir.specs.Instructions.{written as written_by, operands, opened, entered, used};
+ghost use Rattle.po_ir.specs.Instructions.{operands, opened, entered, used};
+ghost use Rattle.po_ir.specs.Instructions as instructions;
 ghost use Rattle.po_ir.specs.Valid.{IsRegister, IsSlot, IsThere, AreRegisters, AreSlots, AreTargets, Ends, NamesParts, EndsLast, IsValid};
 
 use crate::graph::{Graph, Node};
@@ -8,7 +9,7 @@ use po_base::{Opnd, RegNo};
 
 /// The register that gets the instruction's result. In constant time.
 pub fn written(instr: &Instr) -> Option<RegNo>
-    ensures { result ≡ written_by instr.now }
+    ensures { result ≡ instructions.written instr.now }
 {
     match instr {
         Instr::Const { to, .. }
@@ -48,7 +49,7 @@ fn are_there(registers: usize, operands: &[Opnd]) -> bool
 }
 
 fn result_is_there(registers: usize, instr: &Instr) -> bool
-    ensures { IsTrue result ↔ IsRegister registers (written_by instr.now) }
+    ensures { IsTrue result ↔ IsRegister registers (instructions.written instr.now) }
 {
     match written(instr) {
         Some(register) => (register.0 as usize) < registers,

@@ -1,6 +1,7 @@
 -- Steps over a line of the preprocessor.
 use Rattle.std.proofs.Common.{◌≡◌, ℕ, ◌+◌, ◌*◌, ◌-◌, ◌^◌, ◌<◌, ◌≤◌, Bool, true, false, cond, leb, List, [], ◌∷◌, length, get_or, drop, arith, sym, ap, refl, ◌∙◌, inl, inr, rules, tests}
-use Rattle.std.specs.Prelude.{min, Some, None, ◌⊎◌}
+use Rattle.std.specs.Prelude.{min, Some, None, ◌⊎◌, ◌==◌, ◌||◌}
+use Rattle.std.specs.List.{list_any}
 use Rattle.std.proofs.lemmas.List.{drop_more, drop_all, drop-drop}
 use Rattle.std.specs.Prelude.{Result, Ok, Err, MatchResult, is_ok, IsUtf8}
 use Rattle.std.proofs.lemmas.Bool.{cases_lt}
@@ -90,3 +91,12 @@ number_more n m line at end in' d q h =
 pub tail_at : (tail : Row) (line : List ℕ) (close : ℕ) (v : List ℕ) → v ≡ skip tail 0 (drop (close + 1) line) → skip tail 0 (drop 1 (drop close line)) ≡ v
 tail_at tail line close v q =
     let d : drop 1 (drop close line) ≡ drop (close + 1) line = drop-drop 1 close line in ap (skip tail 0) d ∙ sym q
+
+-- a name without a backslash is as it is written
+pub unescaped : (xs : List ℕ) → list_any (λ c. c == 92) xs ≡ false → plain false xs ≡ xs
+unescaped [] q = refl
+unescaped (c ∷ cs) q =
+    elim (c == 92) as (λ b. (b || list_any (λ c. c == 92) cs) ≡ false → cond b (plain true cs) (c ∷ plain false cs) ≡ c ∷ cs) [
+      | true ↦ (λ h. absurd (cc))
+      | false ↦ (λ h. ap (λ v. c ∷ v) (unescaped cs h))
+    ] q

@@ -2,7 +2,7 @@ mod Rows
 mod Directives
 mod Parts
 mod Fronts
-mod Walks
+mod Nestings
 mod Remains
 mod Widths
 mod Unique
@@ -11,3 +11,8 @@ mod Longest
 mod Lines
 mod Selected
 mod Placed
+mod Tables
+mod Words
+mod Texts
+mod Balance
+mod Markers

@@ -1,18 +1,20 @@
 -- Lines are counted once: no line ends in a word, a number, a literal or a directive, and the last bytes of a part decide how its line goes on.
-use Rattle.std.proofs.Common.{◌≡◌, ℕ, ◌+◌, ◌-◌, ◌<◌, ◌≤◌, Bool, true, false, cond, List, [], ◌∷◌, ◌++◌, length, get_or, take, drop, arith, sym, ap, refl, ◌∙◌}
-use Rattle.std.specs.Prelude.{◌==◌, ◌&&◌, ◌||◌}
-use Rattle.std.proofs.lemmas.Bool.{eqb-true}
+use Rattle.std.proofs.Common.{◌≡◌, ℕ, ◌+◌, ◌-◌, ◌<◌, ◌≤◌, Bool, true, false, cond, List, [], ◌∷◌, ◌++◌, length, get_or, take, drop, arith, sym, ap, refl, ◌∙◌, subst, inl, inr}
+use Rattle.std.specs.Prelude.{◌==◌, ◌&&◌, ◌||◌, max, nat_eq}
+use Rattle.std.specs.List.{starts_with}
+use Rattle.std.proofs.lemmas.Bool.{eqb-true, cases_lt}
+use Rattle.std.proofs.lemmas.Slice.Eq.{bytes_eq-Decides}
 use Rattle.std.proofs.lemmas.List.Recursion.{is_count_by}
-use Rattle.std.proofs.lemmas.List.{take_more, take-append-drop}
-use Rattle.po_lex.specs.Bytes.{newlines, is_gap, is_space}
-use Rattle.po_lex.specs.Rows.{goes_on, behind, front, skip}
-use Rattle.po_lex.specs.Leads.{beginning, lead_of, opening, row_of, closing, lines}
+use Rattle.std.proofs.lemmas.List.{take_more, drop_more, take-append-drop, append_cancel_right}
+use Rattle.po_lex.specs.Bytes.{newlines, is_gap, is_blank}
+use Rattle.po_lex.specs.Rows.{goes_on, behind, skip}
+use Rattle.po_lex.specs.PartKinds.{part_kind_at, part_kind_of, opening, row_of, closing, lines, signs, longest}
 use Rattle.po_lex.specs.Division.{freshly, Stands}
 use Rattle.po_lex.specs.declared.effect.Effect.TheVariants as e
 use Rattle.po_lex.specs.declared.row.Row.{Row}
 use Rattle.po_lex.specs.declared.row.Row.TheVariants as r
-use Rattle.po_lex.specs.declared.lead.Lead.{Lead}
-use Rattle.po_lex.specs.declared.lead.Lead.TheVariants as l
+use Rattle.po_lex.specs.declared.part_kind.PartKind.{PartKind}
+use Rattle.po_lex.specs.declared.part_kind.PartKind.TheVariants as l
 
 freshly_last : (fresh : Bool) (xs : List ℕ) (c : ℕ) → freshly fresh (xs ++ (c ∷ [])) ≡ ((c == 10) || (is_gap c && freshly fresh xs))
 freshly_last fresh [] c = refl
@@ -61,12 +63,12 @@ ends_row row before (c ∷ cs) none =
     ] refl
 
 -- no newline begins what isn't a blank
-no_newline : (c d : ℕ) → (beginning c d ≡ l.Blank → ⊥) → c ≡ 10 → ⊥
+no_newline : (c d : ℕ) → (part_kind_at c d ≡ l.Blank → ⊥) → c ≡ 10 → ⊥
 no_newline c d other e = other (rw e refl)
 
 -- a part with one byte before such a row, and with no newline behind it, ends no line
 lineless : (kind : Row) (close : List ℕ) (bytes : List ℕ) (end : ℕ) → ((b : ℕ) → goes_on kind b 10 ≡ false) → newlines close ≡ 0 →
-    (lead_of bytes ≡ l.Blank → ⊥) → 1 ≤ length bytes → skip kind 0 (drop 1 bytes) ≡ close ++ drop end bytes → 0 ≡ newlines (take end bytes)
+    (part_kind_of bytes ≡ l.Blank → ⊥) → 1 ≤ length bytes → skip kind 0 (drop 1 bytes) ≡ close ++ drop end bytes → 0 ≡ newlines (take end bytes)
 lineless kind close [] end none closed other some ended = absurd (omega arith)
 lineless kind close (c ∷ cs) end none closed other some ended =
     let all : ends (take end (c ∷ cs)) + ends (drop end (c ∷ cs)) ≡ ends (c ∷ cs) =
@@ -77,36 +79,71 @@ lineless kind close (c ∷ cs) end none closed other some ended =
     let none_in : 0 ≡ ends (take end (c ∷ cs)) = omega (arith, all, first, rest, none_closed) in
     none_in ∙ ends_so (take end (c ∷ cs))
 
-pub lines_so : (lead : Lead) (bytes : List ℕ) (end : ℕ) → lead ≡ lead_of bytes → opening lead bytes ≤ length bytes →
-    skip (row_of lead) 0 (drop (opening lead bytes) bytes) ≡ closing lead ++ drop end bytes → lines lead (take end bytes) ≡ newlines (take end bytes)
+first_so : (a b : Bool) → (a && b) ≡ true → a ≡ true
+first_so true b h = refl
+first_so false b h = h
+
+second_so : (a b : Bool) → (a && b) ≡ true → b ≡ true
+second_so true b h = h
+second_so false b h = absurd (cc)
+
+abbrev are_lineless : List (List ℕ) → Bool
+are_lineless [] = true
+are_lineless (x ∷ xs) = (newlines x == 0) && are_lineless xs
+
+-- the longest of texts in which no line ends ends no line
+longest_lineless : (xs : List (List ℕ)) (bytes : List ℕ) → are_lineless xs ≡ true → newlines (take (longest xs bytes) bytes) ≡ 0
+longest_lineless [] bytes h = refl
+longest_lineless (x ∷ xs) bytes h =
+    let n : ℕ = longest xs bytes in
+    let rest : newlines (take n bytes) ≡ 0 = longest_lineless xs bytes (second_so (newlines x == 0) (are_lineless xs) h) in
+    let this : newlines x ≡ 0 = eqb-true (newlines x) 0 (first_so (newlines x == 0) (are_lineless xs) h) in
+    elim (starts_with nat_eq bytes x) as (λ b. starts_with nat_eq bytes x ≡ b → newlines (take (cond b (max (length x) n) n) bytes) ≡ 0) [
+      | true ↦ (λ q. let same : x ≡ take (length x) bytes = (bytes_eq-Decides x (take (length x) bytes)).0 q in
+          elim (cases_lt (length x) n) as (λ _. newlines (take (max (length x) n) bytes) ≡ 0) [
+            | inl k ↦ (let m : max (length x) n ≡ n = omega (arith, k) in rw m rest)
+            | inr k ↦ (let m : max (length x) n ≡ length x = omega (arith, k) in rw m (ap newlines (sym same) ∙ this))
+          ])
+      | false ↦ (λ q. rest)
+    ] refl
+
+pub skip_nothing : (xs : List ℕ) → skip r.Nothing 0 xs ≡ xs
+skip_nothing [] = refl
+skip_nothing (c ∷ cs) = refl
+
+-- no line ends in a punctuator
+sign_lines : (bytes : List ℕ) (end : ℕ) → skip r.Nothing 0 (drop (longest signs bytes) bytes) ≡ drop end bytes → 0 ≡ newlines (take end bytes)
+sign_lines bytes end ended =
+    let o : ℕ = longest signs bytes in
+    let same : drop o bytes ≡ drop end bytes = sym (skip_nothing (drop o bytes)) ∙ ended in
+    let text : take o bytes ≡ take end bytes =
+    append_cancel_right (take o bytes) (take end bytes) (drop end bytes) (ap (λ v. take o bytes ++ v) (sym same) ∙ take-append-drop o bytes ∙ sym (take-append-drop end bytes)) in
+    sym (longest_lineless signs bytes refl) ∙ ap newlines text
+
+pub lines_so : (part_kind : PartKind) (bytes : List ℕ) (end : ℕ) → part_kind ≡ part_kind_of bytes → opening part_kind bytes ≤ length bytes →
+    skip (row_of part_kind) 0 (drop (opening part_kind bytes) bytes) ≡ closing part_kind ++ drop end bytes → lines part_kind (take end bytes) ≡ newlines (take end bytes)
 lines_so l.Word bytes end q within ended = lineless r.Word [] bytes end (λ b. refl) refl (λ e. let bad : l.Word ≡ l.Blank = q ∙ e in absurd (cc)) within ended
 lines_so l.Number bytes end q within ended = lineless r.Number [] bytes end (λ b. refl) refl (λ e. let bad : l.Number ≡ l.Blank = q ∙ e in absurd (cc)) within ended
 lines_so l.Char bytes end q within ended = lineless (r.Literal 39) (39 ∷ []) bytes end (λ b. refl) refl (λ e. let bad : l.Char ≡ l.Blank = q ∙ e in absurd (cc)) within ended
 lines_so l.Str bytes end q within ended = lineless (r.Literal 34) (34 ∷ []) bytes end (λ b. refl) refl (λ e. let bad : l.Str ≡ l.Blank = q ∙ e in absurd (cc)) within ended
 lines_so l.Directive bytes end q within ended = lineless r.Line [] bytes end (λ b. refl) refl (λ e. let bad : l.Directive ≡ l.Blank = q ∙ e in absurd (cc)) within ended
 lines_so l.Blank bytes end q within ended = refl
-lines_so l.Joined bytes end q within ended = refl
+lines_so l.Splice bytes end q within ended = refl
 lines_so l.Comment bytes end q within ended = refl
-lines_so l.Remark bytes end q within ended = refl
-lines_so l.Sign bytes end q within ended = refl
-
-skip_nothing : (xs : List ℕ) → skip r.Nothing 0 xs ≡ xs
-skip_nothing [] = refl
-skip_nothing (c ∷ cs) = refl
+lines_so l.LineComment bytes end q within ended = refl
+lines_so l.Punctuator bytes end q within ended = sign_lines bytes end ended
 
 -- a blank stands by itself
-pub blank_stands : (fresh : Bool) (bytes : List ℕ) → 0 < length bytes → ((get_or bytes 0 0 == 10) || is_space (get_or bytes 0 0)) ≡ true →
-    Stands fresh bytes (record { lead = l.Blank; text = take 1 bytes; effect = e.Silent }) (drop 1 bytes)
-blank_stands fresh [] some h = absurd (omega arith)
-blank_stands fresh (c ∷ cs) some h = record {
-  whole = refl;
-  begun = sym (rw h refl);
-  some = omega arith;
-  within = omega arith;
-  ended = skip_nothing cs;
-  said = refl;
-}
-
-pub blank_lines : (bytes : List ℕ) → 0 < length bytes → newlines (get_or bytes 0 0 ∷ []) ≡ newlines (take 1 bytes)
-blank_lines [] some = absurd (omega arith)
-blank_lines (c ∷ cs) some = refl
+pub blank_stands : (fresh : Bool) (file : List ℕ) (at : ℕ) → at < length file → is_blank (get_or file at 0) ≡ true →
+    Stands fresh (drop at file) (record { part_kind = l.Blank; text = get_or file at 0 ∷ []; effect = e.Silent }) (drop (at + 1) file)
+blank_stands fresh file at some h =
+    let c : ℕ = get_or file at 0 in
+    let cs : List ℕ = drop (at + 1) file in
+    subst (λ v. Stands fresh v (record { part_kind = l.Blank; text = c ∷ []; effect = e.Silent }) cs) (sym (drop_more file at 0 some)) (record {
+      whole = refl;
+      begun = sym (rw h refl);
+      some = omega arith;
+      within = omega arith;
+      ended = skip_nothing cs;
+      part_effect = refl;
+    })

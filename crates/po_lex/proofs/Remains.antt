@@ -1,18 +1,18 @@
 -- Steps of the reader that keeps tokens.
-use Rattle.std.proofs.Common.{◌≡◌, ℕ, ◌+◌, ◌-◌, ◌<◌, ◌≤◌, List, ◌∷◌, ◌++◌, length, take, drop, arith, sym, ap, ◌∙◌, subst, append_assoc}
-use Rattle.std.proofs.lemmas.List.{drop-drop, take-append-drop, length-drop, length-take-le}
+use Rattle.std.proofs.Common.{◌≡◌, ℕ, ◌+◌, ◌-◌, List, ◌∷◌, ◌++◌, take, drop, arith, sym, ap, ◌∙◌, subst, append_assoc}
+use Rattle.std.proofs.lemmas.List.{drop-drop}
 use Rattle.po_base.specs.declared.token.Token.{Token}
 use Rattle.po_lex.specs.Keeping.{Keeps, more, advance, size, kept_of, at_start}
-use Rattle.po_lex.specs.declared.keeping.Mood.{Mood}
+use Rattle.po_lex.specs.declared.keeping.Context.{Context}
 
-pub keeps_on : (read done grown : List Token) (m now : Mood) (at n : ℕ) (t : Token) (us : List Token) → drop at read ≡ t ∷ us → n ≡ size m t us →
+pub keeps_on : (read done grown : List Token) (m now : Context) (at n : ℕ) (t : Token) (us : List Token) → drop at read ≡ t ∷ us → n ≡ size m t us →
     now ≡ advance m (take n (drop at read)) → grown ≡ done ++ kept_of n t us →
     ((kept : List Token) → Keeps m (drop at read) kept → Keeps at_start read (done ++ kept)) →
     (kept : List Token) → Keeps now (drop (at + n) read) kept → Keeps at_start read (grown ++ kept)
 keeps_on read done grown m now at n t us parts sized moved grew before kept k =
     let rest : drop (at + n) read ≡ drop n (t ∷ us) = sym (drop-drop n at read) ∙ ap (drop n) parts in
-    let mood : now ≡ advance m (take n (t ∷ us)) = moved ∙ ap (λ v. advance m (take n v)) parts in
-    let one : Keeps (advance m (take n (t ∷ us))) (drop n (t ∷ us)) kept = subst (λ v. Keeps v (drop n (t ∷ us)) kept) mood (subst (λ v. Keeps now v kept) rest k) in
+    let context : now ≡ advance m (take n (t ∷ us)) = moved ∙ ap (λ v. advance m (take n v)) parts in
+    let one : Keeps (advance m (take n (t ∷ us))) (drop n (t ∷ us)) kept = subst (λ v. Keeps v (drop n (t ∷ us)) kept) context (subst (λ v. Keeps now v kept) rest k) in
     let two : Keeps (advance m (take (size m t us) (t ∷ us))) (drop (size m t us) (t ∷ us)) kept =
     subst (λ v. Keeps (advance m (take v (t ∷ us))) (drop v (t ∷ us)) kept) sized one in
     let three : Keeps m (drop at read) (kept_of n t us ++ kept) =
@@ -20,12 +20,7 @@ keeps_on read done grown m now at n t us parts sized moved grew before kept k =
     let four : grown ++ kept ≡ done ++ (kept_of n t us ++ kept) = ap (λ v. v ++ kept) grew ∙ append_assoc done (kept_of n t us) kept in
     subst (Keeps at_start read) (sym four) (before (kept_of n t us ++ kept) three)
 
-pub kept_whole : (read : List Token) (at n : ℕ) → 0 < n → at + n ≤ length read →
-    (take (at + n - (at + 1)) (drop (at + 1) read) ++ drop (at + n) read ≡ drop (at + 1) read) × (length (take (at + n - (at + 1)) (drop (at + 1) read)) + 1 ≡ n)
-kept_whole read at n some room =
-    let k : ℕ = at + n - (at + 1) in
-    let m : (at + 1) + k ≡ at + n = omega arith in
-    let d : drop k (drop (at + 1) read) ≡ drop (at + n) read = drop-drop k (at + 1) read ∙ ap (λ v. drop v read) m in
-    let l : length (drop (at + 1) read) ≡ length read - (at + 1) = length-drop (at + 1) read in
-    let e : length (take k (drop (at + 1) read)) ≡ k = length-take-le k (drop (at + 1) read) (omega arith) in
-    (ap (λ v. take k (drop (at + 1) read) ++ v) (sym d) ∙ take-append-drop k (drop (at + 1) read), omega arith)
+-- the tokens that are judged with the one at a place
+pub held_of : (at n : ℕ) (us : List Token) → take (at + n - (at + 1)) us ≡ take (n - 1) us
+held_of at n us =
+    let q : at + n - (at + 1) ≡ n - 1 = omega arith in ap (λ v. take v us) q

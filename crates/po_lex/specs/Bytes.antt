@@ -5,6 +5,10 @@ use Rattle.std.specs.Prelude.{ℕ, Bool, ◌==◌, ◌&&◌, ◌||◌, nat_le, L
 abbrev pub is_space : ℕ → Bool
 is_space c = (c == 32) || (c == 9) || (c == 11) || (c == 12) || (c == 13)
 
+-- a blank by itself: a newline, or a blank within a line
+abbrev pub is_blank : ℕ → Bool
+is_blank c = (c == 10) || is_space c
+
 -- a space or a tab
 abbrev pub is_gap : ℕ → Bool
 is_gap c = (c == 32) || (c == 9)

@@ -4,8 +4,10 @@ use Rattle.std.specs.List.{list_any}
 use Rattle.std.specs.Str.{bytes_eq}
 use Rattle.po_base.specs.declared.token.Token.{Token}
 use Rattle.po_lex.specs.Brackets.{State, outset, step, mark, is_word, closer, is_closer}
-use Rattle.po_lex.specs.declared.keeping.Mood.{Mood}
-use Rattle.po_lex.specs.declared.keeping.Standard.{Standard}
+use Rattle.po_lex.specs.declared.keeping.Context.{Context}
+use Rattle.po_lex.specs.declared.keeping.Replacements.{Replacements}
+use Rattle.po_lex.specs.declared.extension.Extension.{Extension}
+use Rattle.po_lex.specs.declared.extension.Extension.TheVariants as e
 
 -- words that are dropped
 abbrev pub dropped : List (List ℕ)
@@ -38,13 +40,17 @@ is_among words text = list_any (λ w. bytes_eq w text) words
 abbrev pub is_one_of : List (List ℕ) → Token → Bool
 is_one_of words t = is_word t.kind && is_among words t.text
 
--- no word that begins with `_`, as all words do of which something is dropped or read as another
-abbrev pub begins_low : List ℕ → Bool
-begins_low [] = false
-begins_low (c ∷ cs) = c == 95
+-- the word of the compiler's own that a text is
+abbrev pub extension_word : List ℕ → Extension
+extension_word text =
+    cond (is_among dropped text) e.Dropped
+    (cond (is_among attribute text) e.Attribute
+    (cond (is_among assembler text) e.Assembler
+    (cond (is_among inlines text) e.Inline
+    (cond (is_among consts text) e.Const e.Other))))
 
-abbrev pub is_plain : Token → Bool
-is_plain t = not (is_word t.kind && begins_low t.text)
+abbrev pub extension_of : Token → Extension
+extension_of t = cond (is_word t.kind) (extension_word t.text) e.Other
 
 abbrev pub is_empty : {X : Type 0} → List X → Bool
 is_empty [] = true
@@ -71,8 +77,8 @@ abbrev pub parens : List Token → ℕ
 parens ts = cond (begins_paren ts) (group 0 (Some outset) ts) 0
 
 -- the same of double parentheses, of which the inner ones close directly before the outer
-abbrev pub doubled : List Token → ℕ
-doubled ts = cond (not (parens (drop 1 ts) == 0) && (parens (drop 1 ts) + 2 == parens ts)) (parens ts) 0
+abbrev pub double_parens : List Token → ℕ
+double_parens ts = cond (not (parens (drop 1 ts) == 0) && (parens (drop 1 ts) + 2 == parens ts)) (parens ts) 0
 
 -- how many brackets are open behind a token, where d were before it
 abbrev pub deeper : ℕ → Token → ℕ
@@ -83,47 +89,56 @@ abbrev pub may_end : Token → Bool
 may_end t = is_word t.kind || (mark t == 41) || (mark t == 93)
 
 -- The start of a file: no bracket is open, and nothing stands before.
-abbrev pub at_start : Mood
+abbrev pub at_start : Context
 at_start = record { depth = 0; after = false }
 
 -- what holds behind these tokens
-abbrev pub advance : Mood → List Token → Mood
+abbrev pub advance : Context → List Token → Context
 advance m [] = m
 advance m (t ∷ ts) = advance (record { depth = deeper m.depth t; after = may_end t }) ts
 
 -- How many tokens from t on are judged at once: an attribute with its double parentheses, outside brackets an `__asm__` with
 -- its parentheses behind what a declarator may end with, and else one token.
-abbrev pub size : Mood → Token → List Token → ℕ
-size m t us =
-    cond (is_one_of attribute t) (doubled us + 1)
-    (cond (is_one_of assembler t && m.after && (m.depth == 0)) (parens us + 1) 1)
+abbrev pub size_as : Extension → Context → List Token → ℕ
+size_as e.Attribute m us = double_parens us + 1
+size_as e.Assembler m us = cond (m.after && (m.depth == 0)) (parens us + 1) 1
+size_as _ m us = 1
+
+abbrev pub size : Context → Token → List Token → ℕ
+size m t us = size_as (extension_of t) m us
 
 -- the words as which others are read
-pub record AreStandard (words : Standard) : Type 0 where
+pub record AreReplacements (words : Replacements) : Type 0 where
   pub inline_of : words.inline ≡ codes "inline"
   pub constant_of : words.constant ≡ codes "const"
 
 -- a token with the word as which it is read
+abbrev pub renamed_as : Extension → Token → Token
+renamed_as e.Inline t = record t { text = codes "inline" }
+renamed_as e.Const t = record t { text = codes "const" }
+renamed_as _ t = t
+
 abbrev pub renamed : Token → Token
-renamed t =
-    cond (is_one_of inlines t) (record t { text = codes "inline" })
-    (cond (is_one_of consts t) (record t { text = codes "const" }) t)
+renamed t = renamed_as (extension_of t) t
 
--- An attribute stays where it holds a word that tells something; then it stays whole.
-abbrev pub stays : Token → List Token → Bool
-stays t group = is_one_of attribute t && list_any (is_one_of telling) group
+-- an attribute stays where it holds a word that tells something
+abbrev pub tells : List Token → Bool
+tells held = list_any (is_one_of telling) held
 
--- what is kept of the tokens that are judged at once
+-- What is kept of a token and those `held` behind it, which are judged at once: an attribute stays whole, or goes.
+abbrev pub kept_as : Extension → Token → List Token → List Token
+kept_as e.Dropped t held = []
+kept_as e.Attribute t held = cond (is_empty held || tells held) (t ∷ held) []
+kept_as e.Assembler t held = cond (is_empty held) (t ∷ []) []
+kept_as x t held = renamed_as x t ∷ []
+
 abbrev pub kept_of : ℕ → Token → List Token → List Token
-kept_of n t us =
-    cond (is_one_of dropped t) []
-    (cond (n == 1) (renamed t ∷ [])
-    (cond (stays t (take (n - 1) us)) (t ∷ take (n - 1) us) []))
+kept_of n t us = kept_as (extension_of t) t (take (n - 1) us)
 
 -- The tokens `kept` are those that are kept of the tokens, before which this holds.
-pub data Keeps : Mood → List Token → List Token → Type 0 where
-  nothing : (m : Mood) → Keeps m [] []
-  more : (m : Mood) (t : Token) (us kept : List Token) →
+pub data Keeps : Context → List Token → List Token → Type 0 where
+  nothing : (m : Context) → Keeps m [] []
+  more : (m : Context) (t : Token) (us kept : List Token) →
       Keeps (advance m (take (size m t us) (t ∷ us))) (drop (size m t us) (t ∷ us)) kept →
       Keeps m (t ∷ us) (kept_of (size m t us) t us ++ kept)
 

@@ -1,6 +1,6 @@
 pub mod Bytes
 pub mod Rows
-pub mod Leads
+pub mod PartKinds
 pub mod Directives
 pub mod Division
 pub mod Lexing
@@ -10,3 +10,6 @@ pub mod Shapes
 pub mod Keeping
 pub mod Closings
 pub mod Laws
+pub mod Texts
+pub mod Markers
+pub mod Balance

@@ -1,11 +1,22 @@
 ghost use Rattle.std.specs.Prelude.{◌≡◌};
-ghost use Rattle.po_lex.specs.Bytes.{is_space, is_gap, is_digit, is_letter, begins_word, is_exponent, are};
+ghost use Rattle.po_lex.specs.Bytes.{is_blank, is_space, is_gap, is_digit, is_letter, is_exponent, are};
 
 /// Whether a byte is a blank within a line: space, tab, vertical tab, form feed or carriage return.
 pub(crate) fn is_space(byte: u8) -> bool
     ensures { result ≡ is_space byte }
 {
     byte == b' ' || byte == b'\t' || byte == 11 || byte == 12 || byte == b'\r'
+}
+
+/// Whether a byte is a blank by itself.
+pub(crate) fn is_blank(byte: u8) -> bool
+    ensures { result ≡ is_blank byte }
+{
+    match byte {
+        b'\t'..=b'\r' => true,
+        b' ' => true,
+        _ => false,
+    }
 }
 
 /// Whether a byte is a space or a tab.
@@ -27,13 +38,6 @@ pub(crate) fn is_letter(byte: u8) -> bool
     ensures { result ≡ is_letter byte }
 {
     b'a' <= byte && byte <= b'z' || b'A' <= byte && byte <= b'Z' || byte == b'_'
-}
-
-/// Whether a byte begins a word: a letter, `_` or `$`.
-pub(crate) fn begins_word(byte: u8) -> bool
-    ensures { result ≡ begins_word byte }
-{
-    is_letter(byte) || byte == b'$'
 }
 
 /// Whether a byte begins the exponent of a number.

@@ -1,7 +1,8 @@
-ghost use Rattle.std.specs.Prelude.{◌≡◌, ◌≤◌, ◌<◌, ◌+◌, ◌*◌, ◌-◌, ◌^◌, ◌==◌, ◌||◌, ◌&&◌, not, ℕ, min, length, drop, false, true, codes, IfOk, IsTrue, ◌++◌, ◌∷◌, List as Bytes};
+ghost use Rattle.std.specs.Prelude.{◌≡◌, ◌≤◌, ◌<◌, ◌+◌, ◌*◌, ◌-◌, ◌^◌, ◌==◌, ◌||◌, ◌&&◌, not, ℕ, min, length, take, drop, false, true, codes, IfOk, IsTrue, ◌++◌, ◌∷◌, List as Bytes};
+ghost use Rattle.std.specs.List.{list_any};
 ghost use Rattle.po_lex.specs.Bytes.{is_digit};
 ghost use Rattle.po_lex.specs.Rows.{skip};
-ghost use Rattle.po_lex.specs.Directives.{begins_digit, begins_quote, is_end, is_word, named, number, numbered, next, plain, says, marker, solid, told};
+ghost use Rattle.po_lex.specs.Directives.{begins_digit, begins_quote, is_end, is_word, named, number, numbered, next, plain, directive_effect, marker, solid, directive_effect_at};
 
 use crate::bytes::is_digit;
 use crate::effect::Effect;
@@ -103,11 +104,47 @@ fn plain(alloc: Global, written: &[u8]) -> Result<List<u8>, Memory>
     Ok(name)
 }
 
+/// The bytes of a line between two places.
+fn text_at(line: &Text, from: usize, to: usize) -> &[u8]
+    requires ascending { from ≤ to }
+    requires within { to ≤ length line.now }
+    ensures { result.now ≡ take (to - from) (drop from line.now) }
+{
+    &line.bytes()[from..to]
+}
+
+/// Whether a backslash stands among the bytes. Time linear in them.
+fn has_backslash(bytes: &[u8]) -> bool
+    ensures { result ≡ list_any (λ c. c == 92) bytes.now }
+{
+    for byte in bytes {
+        if *byte == b'\\' {
+            return true;
+        }
+    }
+    false
+}
+
+/// The name that is written between two places of a line, without its escapes. Where it has none it shares the line's
+/// bytes; else time and memory are linear in its bytes.
+fn plain_name(alloc: Global, line: &Text, from: usize, to: usize) -> Result<Text, Memory>
+    requires ascending { from ≤ to }
+    requires within { to ≤ length line.now }
+    ensures { IfOk result (λ name. name ≡ plain false (take (to - from) (drop from line.now))) }
+{
+    let written = text_at(line, from, to);
+    if has_backslash(written) {
+        let name = plain(alloc, written)?;
+        return Text::new(alloc, name.as_slice());
+    }
+    line.part(from, to)
+}
+
 /// The name between quotes at a place, after which nothing but the row `tail` stands, as the name of the lines
-/// from `number` on. Time and memory linear in the line.
+/// from `number` on. Time linear in the line.
 fn named(
     alloc: Global,
-    line: &[u8],
+    line: &Text,
     at: usize,
     number: u32,
     tail: Row,
@@ -115,18 +152,19 @@ fn named(
     requires { at ≤ length line.now }
     ensures { IfOk result (λ found. found ≡ named tail number (drop at line.now)) }
 {
-    if !begins_quote(line, at) {
+    let bytes = line.bytes();
+    if !begins_quote(bytes, at) {
         return Ok(None);
     }
-    let close = row_end(line, at + 1, Row::Literal(b'"'));
-    if !begins_quote(line, close) {
+    let close = row_end(bytes, at + 1, Row::Literal(b'"'));
+    if !begins_quote(bytes, close) {
         return Ok(None);
     }
-    if !is_end(line, row_end(line, close + 1, tail)) {
+    if !is_end(bytes, row_end(bytes, close + 1, tail)) {
         return Ok(None);
     }
-    let name = plain(alloc, &line[at + 1..close])?;
-    Ok(Some(Effect::Named(number, Text::new(alloc, name.as_slice())?)))
+    let name = plain_name(alloc, line, at + 1, close)?;
+    Ok(Some(Effect::Named(number, name)))
 }
 
 /// Where the blanks after the digits at a place end. Time linear in them.
@@ -157,32 +195,35 @@ fn is_word(line: &[u8], at: usize, word: &[u8]) -> bool
 }
 
 /// The line marker that begins at its number.
-fn marker(alloc: Global, line: &[u8], at: usize) -> Result<Option<Effect>, Memory>
+fn marker(alloc: Global, line: &Text, at: usize) -> Result<Option<Effect>, Memory>
     requires { at ≤ length line.now }
     ensures { IfOk result (λ found. found ≡ marker (drop at line.now)) }
 {
+    let bytes = line.bytes();
     named(
         alloc,
         line,
-        after_digits(line, at),
-        number(line, at),
+        after_digits(bytes, at),
+        number(bytes, at),
         Row::Flags,
     )
 }
 
 /// The number of a line and its name, where one stands, after the word `line`.
-fn numbered(alloc: Global, line: &[u8], at: usize) -> Result<Option<Effect>, Memory>
+fn numbered(alloc: Global, line: &Text, at: usize) -> Result<Option<Effect>, Memory>
     requires { at ≤ length line.now }
     ensures { IfOk result (λ found. found ≡ numbered (drop at line.now)) }
 {
-    if !begins_digit(line, at) {
+    let bytes = line.bytes();
+    if !begins_digit(bytes, at) {
         return Ok(None);
     }
-    let after = after_digits(line, at);
-    if is_end(line, after) {
-        return Ok(Some(Effect::Line(number(line, at))));
+    let after = after_digits(bytes, at);
+    let number = number(bytes, at);
+    if is_end(bytes, after) {
+        return Ok(Some(Effect::Line(number)));
     }
-    named(alloc, line, after, number(line, at), Row::Spaces)
+    named(alloc, line, after, number, Row::Spaces)
 }
 
 /// Whether the word `pragma` stands at a place, and the next word isn't `pack`.
@@ -194,32 +235,33 @@ fn is_skipped_pragma(line: &[u8], at: usize) -> bool
 }
 
 /// What a line of the preprocessor says, from a place at which no blank stands.
-fn told(alloc: Global, line: &[u8], at: usize) -> Result<Option<Effect>, Memory>
+fn directive_effect_at(alloc: Global, line: &Text, at: usize) -> Result<Option<Effect>, Memory>
     requires { at ≤ length line.now }
-    ensures { IfOk result (λ found. found ≡ told (drop at line.now)) }
+    ensures { IfOk result (λ found. found ≡ directive_effect_at (drop at line.now)) }
 {
-    if is_end(line, at) {
+    let bytes = line.bytes();
+    if is_end(bytes, at) {
         return Ok(Some(Effect::Silent));
     }
-    if begins_digit(line, at) {
+    if begins_digit(bytes, at) {
         return marker(alloc, line, at);
     }
-    if is_word(line, at, b"line") {
-        return numbered(alloc, line, after_word(line, at));
+    if is_word(bytes, at, b"line") {
+        return numbered(alloc, line, after_word(bytes, at));
     }
-    if is_word(line, at, b"ident") {
+    if is_word(bytes, at, b"ident") {
         return Ok(Some(Effect::Silent));
     }
-    if is_skipped_pragma(line, at) {
+    if is_skipped_pragma(bytes, at) {
         return Ok(Some(Effect::Silent));
     }
     Ok(None)
 }
 
-/// What a line of the preprocessor says, from behind its `#`; None where no such line is allowed. Time and memory
-/// linear in the line.
-pub(crate) fn says(alloc: Global, line: &[u8]) -> Result<Option<Effect>, Memory>
-    ensures { IfOk result (λ found. found ≡ says line.now) }
+/// What a line of the preprocessor says, from behind its `#`; None where no such line is allowed. Time linear in the
+/// line; no memory but for a name with escapes.
+pub(crate) fn directive_effect(alloc: Global, line: &Text) -> Result<Option<Effect>, Memory>
+    ensures { IfOk result (λ found. found ≡ directive_effect line.now) }
 {
-    told(alloc, line, row_end(line, 0, Row::Spaces))
+    directive_effect_at(alloc, line, row_end(line.bytes(), 0, Row::Spaces))
 }

@@ -1,79 +1,23 @@
 ghost use Rattle.std.specs.Prelude.{ℕ, ◌≡◌, ◌≤◌, ◌<◌, ◌+◌, ◌-◌, ◌^◌, ◌++◌, ◌==◌, ◌&&◌, length, take, drop, map, slice_index, IfOk, OnOk, List as Items};
-ghost use Rattle.std.specs.List.{list_any};
 ghost use Rattle.po_base.specs.declared.token.Token.{Token as Placed};
 ghost use Rattle.po_lex.specs.Brackets.{closer, is_closer, mark};
 ghost use Rattle.po_lex.specs.Closings.{parens_from_each};
-ghost use Rattle.po_lex.specs.Keeping.{advance, assembler, at_start, attribute, consts, deeper, doubled, dropped, inlines, is_among, is_one_of, kept_of, may_end, renamed, size, stays, telling, begins_low, is_plain, AreStandard, Keeps};
+ghost use Rattle.po_lex.specs.Keeping.{advance, at_start, deeper, double_parens, kept_as, may_end, renamed_as, size_as, AreSelected, AreReplacements, Keeps};
 ghost use Rattle.po_lex.specs.Division.{ArePlaced};
 
 use crate::closing::parens_from_each;
-use crate::walk::{closer, is_closer, is_word, mark};
+use crate::extension::{Extension, extension_of, tells};
+use crate::nesting::{closer, is_closer, is_word, mark};
 use po_base::{List, Memory, Text, Token, Tokens};
 use std::alloc::Global;
 
-const DROPPED: [&[u8]; 3] = [b"__extension__", b"__restrict", b"__restrict__"];
-
-const ATTRIBUTE: [&[u8]; 1] = [b"__attribute__"];
-
-const ASSEMBLER: [&[u8]; 1] = [b"__asm__"];
-
-const TELLING: [&[u8]; 10] = [
-    b"packed",
-    b"aligned",
-    b"mode",
-    b"vector_size",
-    b"cleanup",
-    b"__packed__",
-    b"__aligned__",
-    b"__mode__",
-    b"__vector_size__",
-    b"__cleanup__",
-];
-
-const INLINES: [&[u8]; 2] = [b"__inline", b"__inline__"];
-
-const CONSTS: [&[u8]; 1] = [b"__const"];
-
 /// What stands before a place among the tokens of a file as they were read.
 #[derive(Clone, Copy, Debug)]
-pub struct Mood {
+pub struct Context {
     /// How many brackets are open.
     pub depth: u32,
     /// Whether a word, a `)` or a `]` stands directly before.
     pub after: bool,
-}
-
-/// Whether a text is one of these. Time linear in their number.
-fn is_among(words: &[&[u8]], text: &[u8]) -> bool
-    ensures { result ≡ is_among (map (λ w. w.now) words.now) text.now }
-{
-    for word in words {
-        if *word == text {
-            return true;
-        }
-    }
-    false
-}
-
-/// Whether a token is one of these words. Time linear in their number.
-fn is_one_of(words: &[&[u8]], token: &Token) -> bool
-    ensures { result ≡ is_one_of (map (λ w. w.now) words.now) token.now }
-{
-    is_word(token.kind) && is_among(words, token.text.bytes())
-}
-
-/// Whether a token is no word that begins with `_`: then it is kept as it is. Constant time.
-fn is_plain(token: &Token) -> bool
-    ensures { result ≡ is_plain token.now }
-{
-    !(is_word(token.kind) && begins_low(token.text.bytes()))
-}
-
-/// Whether a text begins with `_`.
-fn begins_low(text: &[u8]) -> bool
-    ensures { result ≡ begins_low text.now }
-{
-    text.len() > 0 && text[0] == b'_'
 }
 
 /// How many tokens the parentheses have that stand first from a place on, as `widths` tells; 0 behind the last.
@@ -90,8 +34,8 @@ fn width_at(widths: &[u32], at: usize) -> usize
 
 /// How many tokens the double parentheses have that stand first; 0 where none stand there. `widths` tells how many the
 /// parentheses have from each token on. Constant time.
-fn doubled(widths: &[u32]) -> usize
-    ensures value { (tokens : Items Placed) → widths.now ≡ parens_from_each tokens → result ≡ doubled tokens }
+fn double_parens(widths: &[u32]) -> usize
+    ensures value { (tokens : Items Placed) → widths.now ≡ parens_from_each tokens → result ≡ double_parens tokens }
     ensures few { result < 2 ^ 32 }
 {
     let outer = width_at(widths, 0);
@@ -126,47 +70,48 @@ fn may_end(token: &Token) -> bool
     is_word(token.kind) || mark(token) == b')' || mark(token) == b']'
 }
 
-impl Mood {
+impl Context {
     /// What stands before the place behind these tokens. Time linear in their number.
-    fn advance(self, tokens: &[Token]) -> Mood
+    fn advance(self, tokens: &[Token]) -> Context
         requires { self.depth + length tokens.now < 2 ^ 31 }
         ensures value { result ≡ advance self tokens.now }
         ensures few { result.depth ≤ self.depth + length tokens.now }
     {
-        let mut mood = self;
+        let mut context = self;
         for token in tokens {
-            mood = Mood {
-                depth: deeper(mood.depth, token),
+            context = Context {
+                depth: deeper(context.depth, token),
                 after: may_end(token),
             };
         }
-        mood
+        context
     }
 
-    /// How many tokens are judged at once from `first` on. `widths` tells how many the parentheses have from each token
-    /// behind it on. Constant time.
-    fn size(self, first: &Token, widths: &[u32]) -> usize
-        ensures value { (others : Items Placed) → widths.now ≡ parens_from_each others → result ≡ size self first.now others }
+    /// How many tokens are judged at once from one on that is this word. `widths` tells how many the parentheses have from
+    /// each token behind it on. Constant time.
+    fn size(self, extension: Extension, widths: &[u32]) -> usize
+        ensures value { (others : Items Placed) → widths.now ≡ parens_from_each others → result ≡ size_as extension self others }
         ensures some { 0 < result }
         ensures few { result ≤ 2 ^ 32 }
     {
-        if is_plain(first) {
-            return 1;
+        match extension {
+            Extension::Attribute => double_parens(widths) + 1,
+            Extension::Assembler => self.assembler_size(widths),
+            Extension::Other | Extension::Dropped | Extension::Inline | Extension::Const => 1,
         }
-        if is_one_of(&ATTRIBUTE, first) {
-            return doubled(widths) + 1;
-        }
-        if self.may_drop(first) {
-            return width_at(widths, 0) + 1;
-        }
-        1
     }
 
-    /// Whether an `__asm__` is dropped here with its parentheses.
-    fn may_drop(self, first: &Token) -> bool
-        ensures { result ≡ is_one_of assembler first.now && self.after && (self.depth == 0) }
+    /// How many tokens are judged at once from an `__asm__` on.
+    fn assembler_size(self, widths: &[u32]) -> usize
+        ensures value { (others : Items Placed) → widths.now ≡ parens_from_each others → result ≡ size_as Extension.Assembler self others }
+        ensures some { 0 < result }
+        ensures few { result ≤ 2 ^ 32 }
     {
-        is_one_of(&ASSEMBLER, first) && self.after && self.depth == 0
+        if self.after && self.depth == 0 {
+            width_at(widths, 0) + 1
+        } else {
+            1
+        }
     }
 }
 
@@ -198,47 +143,34 @@ fn with_text(token: &Token, text: &Text) -> Result<Token, Memory>
 
 /// The words as which others are read, once for all tokens of a file.
 #[derive(Debug, Drop)]
-struct Standard {
+struct Replacements {
     inline: Text,
     constant: Text,
 }
 
-impl Standard {
+impl Replacements {
     /// `inline` and `const`.
-    fn new(alloc: Global) -> Result<Standard, Memory>
-        ensures { IfOk result (λ standard. AreStandard standard) }
+    fn new(alloc: Global) -> Result<Replacements, Memory>
+        ensures { IfOk result (λ replacements. AreReplacements replacements) }
     {
-        Ok(Standard {
+        Ok(Replacements {
             inline: Text::new(alloc, b"inline")?,
             constant: Text::new(alloc, b"const")?,
         })
     }
 
-    /// The token with the word as which it is read.
-    fn renamed(&self, token: &Token) -> Result<Token, Memory>
-        requires { AreStandard self.now }
-        ensures { IfOk result (λ other. other ≡ renamed token.now) }
+    /// The token, which is this word, with the word as which it is read.
+    fn renamed(&self, extension: Extension, token: &Token) -> Result<Token, Memory>
+        requires { AreReplacements self.now }
+        ensures { IfOk result (λ other. other ≡ renamed_as extension token.now) }
     {
-        if is_one_of(&INLINES, token) {
-            return with_text(token, &self.inline);
-        }
-        if is_one_of(&CONSTS, token) {
-            return with_text(token, &self.constant);
-        }
-        same(token)
-    }
-}
-
-/// Whether one of the tokens tells what an attribute may not be dropped for. Time linear in their number.
-fn tells(tokens: &[Token]) -> bool
-    ensures { result ≡ list_any (is_one_of telling) tokens.now }
-{
-    for token in tokens {
-        if is_one_of(&TELLING, token) {
-            return true;
+        match extension {
+            Extension::Inline => with_text(token, &self.inline),
+            Extension::Const => with_text(token, &self.constant),
+            Extension::Other | Extension::Dropped | Extension::Attribute | Extension::Assembler =>
+                same(token),
         }
     }
-    false
 }
 
 /// Puts copies of these tokens at the end, without copies of their texts. Time linear in their number.
@@ -251,49 +183,47 @@ fn put_all(list: &mut List<Token>, tokens: &[Token]) -> Result<(), Memory>
     Ok(())
 }
 
-/// Whether an attribute stays, which holds these tokens.
-fn stays(first: &Token, held: &[Token]) -> bool
-    ensures { result ≡ stays first.now held.now }
-{
-    is_one_of(&ATTRIBUTE, first) && tells(held)
-}
-
-/// Puts what is kept of a token that is judged alone at the end.
-fn put_one(list: &mut List<Token>, standard: &Standard, token: &Token) -> Result<(), Memory>
-    requires { AreStandard standard.now }
-    ensures { OnOk result ((others : Items Placed) → list.new ≡ list.old ++ kept_of 1 token.now others) }
-{
-    if is_plain(token) {
-        return list.push(same(token)?);
-    }
-    if is_one_of(&DROPPED, token) {
-        return Ok(());
-    }
-    list.push(standard.renamed(token)?)
-}
-
-/// Puts what is kept of `first` and of the tokens `held` behind it, which are judged at once, at the end. Time linear in
-/// their number.
+/// Puts what is kept of `first`, which is this word, and of the tokens `held` behind it, which are judged at once, at the
+/// end. Time linear in their number.
 fn put_kept(
     list: &mut List<Token>,
-    standard: &Standard,
+    replacements: &Replacements,
+    extension: Extension,
     first: &Token,
     held: &[Token],
 ) -> Result<(), Memory>
-    requires { AreStandard standard.now }
-    ensures { OnOk result ((others : Items Placed) → list.new ≡ list.old ++ kept_of (length held.now + 1) first.now (held.now ++ others)) }
+    requires { AreReplacements replacements.now }
+    ensures { OnOk result (list.new ≡ list.old ++ kept_as extension first.now held.now) }
 {
-    if held.len() == 0 {
-        return put_one(list, standard, first);
+    match extension {
+        Extension::Dropped => Ok(()),
+        Extension::Attribute => put_attribute(list, first, held),
+        Extension::Assembler => put_assembler(list, first, held),
+        Extension::Other | Extension::Inline | Extension::Const => {
+            list.push(replacements.renamed(extension, first)?)
+        }
     }
-    if is_one_of(&DROPPED, first) {
-        return Ok(());
+}
+
+/// Puts what is kept of an attribute at the end.
+fn put_attribute(list: &mut List<Token>, first: &Token, held: &[Token]) -> Result<(), Memory>
+    ensures { OnOk result (list.new ≡ list.old ++ kept_as Extension.Attribute first.now held.now) }
+{
+    if held.is_empty() || tells(held) {
+        list.push(same(first)?)?;
+        put_all(list, held)?;
     }
-    if !stays(first, held) {
-        return Ok(());
+    Ok(())
+}
+
+/// Puts what is kept of an `__asm__` at the end.
+fn put_assembler(list: &mut List<Token>, first: &Token, held: &[Token]) -> Result<(), Memory>
+    ensures { OnOk result (list.new ≡ list.old ++ kept_as Extension.Assembler first.now held.now) }
+{
+    if held.is_empty() {
+        list.push(same(first)?)?;
     }
-    list.push(same(first)?)?;
-    put_all(list, held)
+    Ok(())
 }
 
 /// The same names, whose bytes aren't copied. Time linear in their number.
@@ -311,19 +241,20 @@ fn same_names(alloc: Global, names: &List<Text>) -> Result<List<Text>, Memory>
 /// The kept tokens of a file, and its names: `__extension__`, `__restrict` and `__restrict__` are dropped, and so are
 /// `__attribute__` with its double parentheses, unless they hold a word that changes a layout or a type, and outside
 /// brackets `__asm__` with its parentheses behind a word, a `)` or a `]`. `__inline` and `__inline__` are read as
-/// `inline`, `__const` as `const`. No token is made that wasn't there, and texts are handed on and not copied. Time and memory are linear in the tokens, whether
-/// brackets match or not.
+/// `inline`, `__const` as `const`. No token is made that wasn't there, and texts are handed on and not copied. Time and
+/// memory are linear in the tokens, whether brackets match or not.
 pub fn kept(alloc: Global, tokens: &Tokens) -> Result<Tokens, Memory>
     requires { length tokens.now.list < 2 ^ 31 }
     ensures kept { IfOk result (λ kept. Keeps at_start tokens.now.list kept.list) }
     ensures names { IfOk result (λ kept. kept.names ≡ tokens.now.names) }
+    ensures selected { IfOk result (λ kept. AreSelected tokens.now.list kept.list) }
     ensures few { IfOk result (λ kept. length kept.list ≤ length tokens.now.list) }
     ensures placed { IfOk result (λ kept. ArePlaced tokens.now → ArePlaced kept) }
 {
     let read = tokens.list.as_slice();
-    let standard = Standard::new(alloc)?;
+    let replacements = Replacements::new(alloc)?;
     let mut list = List::new(alloc);
-    let mut mood = Mood {
+    let mut context = Context {
         depth: 0,
         after: false,
     };
@@ -332,9 +263,10 @@ pub fn kept(alloc: Global, tokens: &Tokens) -> Result<Tokens, Memory>
     let mut at = 0;
     while at < read.len() {
         let first = &read[at];
-        let end = at + mood.size(first, &widths[at + 1..]);
-        put_kept(&mut list, &standard, first, &read[at + 1..end])?;
-        mood = mood.advance(&read[at..end]);
+        let word = extension_of(first);
+        let end = at + context.size(word, &widths[at + 1..]);
+        put_kept(&mut list, &replacements, word, first, &read[at + 1..end])?;
+        context = context.advance(&read[at..end]);
         at = end;
     }
     let names = same_names(alloc, &tokens.names)?;

@@ -1,17 +1,50 @@
-ghost use Rattle.std.specs.Prelude.{ℕ, ◌≡◌, ◌≤◌, ◌++◌, Bool, true, [], map, length, List as Items};
+ghost use Rattle.std.specs.Prelude.{ℕ, ◌≡◌, ◌≤◌, ◌++◌, ◌^◌, Bool, true, false, [], Some, min, map, length, List as Items};
 ghost use Rattle.po_base.specs.declared.token.Token.{Token as Placed};
 ghost use Rattle.po_base.specs.declared.token.Tokens.{Tokens as Lists};
 ghost use Rattle.po_lex.specs.Division.{Part, Divides, AreTokens, ArePlaced, Fails, HasTooMany, Stands, start};
 ghost use Rattle.po_lex.specs.Keeping.{Keeps, AreSelected};
-ghost use Rattle.po_lex.specs.Pieces.{ArePieces, IsMisshapen};
+ghost use Rattle.po_lex.specs.Brackets.{State, outset};
+ghost use Rattle.po_lex.specs.Balance.{Balanced, steps};
+ghost use Rattle.po_lex.specs.Pieces.{ArePieces, IsPiece, IsMisshapen};
 ghost use Rattle.po_lex.specs.Laws.{StandInOrder, Cover};
-ghost use Rattle.po_lex.specs.declared.keeping.Mood.{Mood as Before};
+ghost use Rattle.po_lex.specs.Directives.{directive_effect, plain, value};
+ghost use Rattle.po_lex.specs.Markers.{IsMarker};
+ghost use Rattle.po_lex.specs.Texts.{IsComment, IsLiteral};
+ghost use Rattle.po_lex.specs.declared.keeping.Context.{Context as Before};
 ghost use Rattle.po_lex.specs.declared.shape.Piece.{Piece as Range};
+
+use crate::effect::Effect;
+use crate::part_kind::PartKind;
 
 /// The part that stands at a place is the longest: no text that is a part by itself, and with which the bytes there
 /// begin, has more bytes.
 pub fn longest_part_stands()
     ensures { (fresh : Bool) (bytes : Items ℕ) (x y : Part) (rest left : Items ℕ) → Stands fresh bytes x rest → Stands true y.text y [] → bytes ≡ y.text ++ left → length y.text ≤ length x.text }
+{}
+
+/// A string is a literal of C99 6.4.5 between `"`, and a character constant one of 6.4.4.4 between `'`.
+pub fn literals_are_those_of_c()
+    ensures strings { (fresh : Bool) (bytes : Items ℕ) (x : Part) (rest : Items ℕ) → Stands fresh bytes x rest → x.part_kind ≡ PartKind.Str → IsLiteral 34 x.text }
+    ensures characters { (fresh : Bool) (bytes : Items ℕ) (x : Part) (rest : Items ℕ) → Stands fresh bytes x rest → x.part_kind ≡ PartKind.Char → IsLiteral 39 x.text }
+{}
+
+/// A comment from `/*` on is one of C99 6.4.9; and where such a comment stands, whatever comes after it, it is the part
+/// that stands there.
+pub fn comments_are_those_of_c()
+    ensures only { (fresh : Bool) (bytes : Items ℕ) (x : Part) (rest : Items ℕ) → Stands fresh bytes x rest → x.part_kind ≡ PartKind.Comment → IsComment x.text }
+    ensures all { (fresh : Bool) (text rest : Items ℕ) → IsComment text → Stands fresh (text ++ rest) (record { part_kind = PartKind.Comment; text = text; effect = Effect.Silent }) rest }
+{}
+
+/// Where a literal of C99 stands, whatever comes after it, it is the part that stands there.
+pub fn literals_of_c_stand()
+    ensures strings { (fresh : Bool) (text rest : Items ℕ) → IsLiteral 34 text → Stands fresh (text ++ rest) (record { part_kind = PartKind.Str; text = text; effect = Effect.Silent }) rest }
+    ensures characters { (fresh : Bool) (text rest : Items ℕ) → IsLiteral 39 text → Stands fresh (text ++ rest) (record { part_kind = PartKind.Char; text = text; effect = Effect.Silent }) rest }
+{}
+
+/// A line marker, as gcc writes it for C99 6.10.4, is read as one: it gives its number, 2^31 standing for any greater one, and
+/// its name without escapes to the lines after it.
+pub fn line_markers_are_read()
+    ensures { (line digits name : Items ℕ) → IsMarker line digits name → directive_effect line ≡ Some (Effect.Named (min (2 ^ 31) (value 0 digits)) (plain false name)) }
 {}
 
 /// The bytes of a file have one division at most.
@@ -69,6 +102,18 @@ pub fn pieces_or_failure()
 /// Tokens fail to have pieces on one line at most.
 pub fn one_shape_failure()
     ensures { (tokens : Items Placed) (l m : ℕ) → IsMisshapen tokens l → IsMisshapen tokens m → l ≡ m }
+{}
+
+/// The brackets of tokens are balanced, as the grammar says, exactly where the walk over them leaves open what was open before
+/// them: from any place where they are balanced, and where from the first place of a piece none is left open they are.
+pub fn balanced_brackets()
+    ensures back { (tokens : Items Placed) → Balanced tokens → (s : State) → (begins : Bool) × (steps (Some s) tokens ≡ Some (record { stack = s.stack; begins = begins })) }
+    ensures balanced { (tokens : Items Placed) (s : State) → steps (Some outset) tokens ≡ Some s → s.stack ≡ [] → Balanced tokens }
+{}
+
+/// The brackets of each piece are balanced.
+pub fn pieces_are_balanced()
+    ensures { (tokens : Items Placed) (body : Bool) → IsPiece tokens body → Balanced tokens }
 {}
 
 /// The pieces of tokens cover them without a gap, and none is empty.

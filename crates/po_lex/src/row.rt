@@ -1,7 +1,7 @@
 ghost use Rattle.std.specs.Prelude.{◌≡◌, ◌≤◌, ◌-◌, length, take, drop};
 ghost use Rattle.po_lex.specs.Rows.{goes_on, behind, front, skip};
 
-use crate::bytes::{are, begins_word, is_digit, is_exponent, is_letter, is_space};
+use crate::bytes::{are, is_digit, is_exponent, is_letter, is_space};
 
 /// How bytes go on in a row.
 #[derive(Clone, Copy, Debug, PartialEq, Eq)]
@@ -36,13 +36,43 @@ fn number_goes_on(before: u8, byte: u8) -> bool
         || (byte == b'+' || byte == b'-') && is_exponent(before)
 }
 
+/// For each byte, whether a word goes on with it: whether it is a letter, a digit, `_` or `$`.
+const WORD_BYTES: [bool; 256] = [
+    false, false, false, false, false, false, false, false, false, false, false, false, false,
+    false, false, false, false, false, false, false, false, false, false, false, false, false,
+    false, false, false, false, false, false, false, false, false, false, true, false, false,
+    false, false, false, false, false, false, false, false, false, true, true, true, true, true,
+    true, true, true, true, true, false, false, false, false, false, false, false, true, true,
+    true, true, true, true, true, true, true, true, true, true, true, true, true, true, true, true,
+    true, true, true, true, true, true, true, true, false, false, false, false, true, false, true,
+    true, true, true, true, true, true, true, true, true, true, true, true, true, true, true, true,
+    true, true, true, true, true, true, true, true, true, false, false, false, false, false, false,
+    false, false, false, false, false, false, false, false, false, false, false, false, false,
+    false, false, false, false, false, false, false, false, false, false, false, false, false,
+    false, false, false, false, false, false, false, false, false, false, false, false, false,
+    false, false, false, false, false, false, false, false, false, false, false, false, false,
+    false, false, false, false, false, false, false, false, false, false, false, false, false,
+    false, false, false, false, false, false, false, false, false, false, false, false, false,
+    false, false, false, false, false, false, false, false, false, false, false, false, false,
+    false, false, false, false, false, false, false, false, false, false, false, false, false,
+    false, false, false, false, false, false, false, false, false, false, false, false, false,
+    false, false, false, false, false, false, false, false, false, false,
+];
+
+/// Whether a word goes on with this byte.
+fn word_goes_on(byte: u8) -> bool
+    ensures { result ≡ goes_on Row.Word (0) byte }
+{
+    WORD_BYTES[usize::from(byte)]
+}
+
 /// Whether the row goes on with this byte, where `before` is the byte to look back on.
 fn goes_on(row: Row, before: u8, byte: u8) -> bool
     ensures { result ≡ goes_on row before byte }
 {
     match row {
         Row::Nothing => false,
-        Row::Word => begins_word(byte) || is_digit(byte),
+        Row::Word => word_goes_on(byte),
         Row::Number => number_goes_on(before, byte),
         Row::Line => byte != b'\n',
         Row::Comment => !are(before, byte, b'*', b'/'),
@@ -101,7 +131,7 @@ fn end_of(bytes: &[u8], at: usize, row: Row) -> usize
 }
 
 /// Where the bytes of a word from `at` on end. Time linear in them.
-fn word_end(bytes: &[u8], at: usize) -> usize
+pub(crate) fn word_end(bytes: &[u8], at: usize) -> usize
     requires { at ≤ length bytes.now }
     ensures after { at ≤ result }
     ensures within { result ≤ length bytes.now }

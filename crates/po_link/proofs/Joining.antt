@@ -8,6 +8,8 @@ use Rattle.std.proofs.lemmas.Bool.{ltb-true, ltb-false}
 use Rattle.std.proofs.lemmas.List.{map-append, take_more, length-take-le, length-append, length-map, drop-drop}
 use Rattle.std.proofs.lemmas.List.Concat.{flat_map-append}
 use Rattle.std.proofs.lemmas.Option.{slice_get_within, get_or_from_slice_get, slice_get_past}
+use Rattle.po_lists.proofs.Booleans.{bool_cases}
+use Rattle.po_lists.proofs.Places.{first_at, second_at, taken_at, dropped_at}
 use Rattle.po_ir.specs.declared.unit.LibUse.{LibUse}
 use Rattle.po_ir.specs.declared.unit.Unit.{Unit as FileUnit}
 use Rattle.po_ir.specs.declared.project.Global.{Global}
@@ -22,7 +24,7 @@ use Rattle.po_link.specs.Objects.{number_at}
 use Rattle.po_link.specs.Parted.{AreParts}
 use Rattle.po_link.specs.Scoped.{flat, seen_by, scoped_function, scoped_lib, IsScope}
 use Rattle.po_ir.proofs.General.{each_from-take}
-use Rattle.po_symbols.proofs.Places.{bool_cases, flat_map-more}
+use Rattle.po_symbols.proofs.Places.{flat_map-more}
 
 pub parts_more : (units : List FileUnit) (file : ℕ) (u : FileUnit) (before after : Parts) → slice_get units file ≡ Some u →
     after.files ≡ before.files ++ u.name ∷ [] → after.opaque ≡ before.opaque ++ flat_map opaque_of u.pieces → after.functions ≡ before.functions ++ joined_functions units file u →
@@ -78,26 +80,6 @@ at_each all n [] i = refl
 at_each all n (x ∷ xs) zero = let e : n ≡ n + 0 = omega arith in ap (λ k. Some (object_number all k x)) e
 at_each all n (x ∷ xs) (suc i) = let e : (n + 1) + i ≡ n + suc i = omega arith in at_each all (n + 1) xs i ∙ ap (λ k. option_map (object_number all k) (slice_get xs i)) e
 
-taken_at : {X : Type 0} (n : ℕ) (xs : List X) (i : ℕ) → i < n → slice_get (take n xs) i ≡ slice_get xs i
-taken_at zero xs i h = absurd (omega arith)
-taken_at (suc n) [] i h = refl
-taken_at (suc n) (x ∷ xs) zero h = refl
-taken_at (suc n) (x ∷ xs) (suc i) h = taken_at n xs i (omega arith)
-
-dropped_at : {X : Type 0} (n : ℕ) (xs : List X) (i : ℕ) → slice_get (drop n xs) i ≡ slice_get xs (n + i)
-dropped_at zero xs i = let e : i ≡ 0 + i = omega arith in ap (slice_get xs) e
-dropped_at (suc n) [] i = refl
-dropped_at (suc n) (x ∷ xs) i = let e : suc n + i ≡ suc (n + i) = omega arith in dropped_at n xs i ∙ sym (ap (slice_get (x ∷ xs)) e)
-
-pub second_at : {X : Type 0} (xs ys : List X) (i : ℕ) → slice_get (xs ++ ys) (length xs + i) ≡ slice_get ys i
-second_at [] ys i = let e : 0 + i ≡ i = omega arith in ap (slice_get ys) e
-second_at (x ∷ xs) ys i = let e : suc (length xs) + i ≡ suc (length xs + i) = omega arith in ap (slice_get (x ∷ (xs ++ ys))) e ∙ second_at xs ys i
-
-pub first_at : {X : Type 0} (xs ys : List X) (i : ℕ) → i < length xs → slice_get (xs ++ ys) i ≡ slice_get xs i
-first_at [] ys i h = absurd (omega arith)
-first_at (x ∷ xs) ys zero h = refl
-first_at (x ∷ xs) ys (suc i) h = first_at xs ys i (omega arith)
-
 past_at : {X : Type 0} (n : ℕ) (xs : List X) (i : ℕ) → n ≤ i → slice_get (take n xs) i ≡ None
 past_at zero xs i h = refl
 past_at (suc n) [] i h = refl
@@ -138,7 +120,7 @@ module _ (units yielded rest : List FileUnit) (u : FileUnit) (numbers left : Lis
   pub place_is : slice_get units (length yielded) ≡ Some u
   place_is =
       let e : length yielded + 0 ≡ length yielded = omega arith in
-      ap (λ l. slice_get l (length yielded)) (sym order) ∙ ap (slice_get (yielded ++ (u ∷ rest))) (sym e) ∙ second_at yielded (u ∷ rest) 0
+      ap (λ l. slice_get l (length yielded)) (sym order) ∙ ap (slice_get (yielded ++ (u ∷ rest))) (sym e) ∙ second_at yielded (u ∷ rest) (length yielded) 0 refl
 
   pub numbers_are : (front : List ℕ) (n : ℕ) → n ≡ length u.globals → front ≡ take n left → (place : ℕ) → unwrap_or (slice_get front place) place ≡ global_of units (length yielded) u place
   numbers_are front n count cut place =
@@ -154,7 +136,7 @@ module _ (units yielded rest : List FileUnit) (u : FileUnit) (numbers left : Lis
             ap (λ l. unwrap_or (slice_get l place) place) front_is
             ∙ ap (λ o. unwrap_or o place) (taken_at (length u.globals) _ place below ∙ dropped_at offset numbers place ∙ ap (λ l. slice_get l (offset + place)) numbered
             ∙ at_each all 0 all (offset + place) ∙ ap (λ k. option_map (object_number all k) (slice_get all (offset + place))) none
-            ∙ ap (option_map (object_number all (offset + place))) (ap (λ l. slice_get l (offset + place)) all_globals ∙ second_at (flat_map globals_of yielded) _ place ∙ first_at u.globals _ place below))
+            ∙ ap (option_map (object_number all (offset + place))) (ap (λ l. slice_get l (offset + place)) all_globals ∙ second_at (flat_map globals_of yielded) _ _ place refl ∙ first_at u.globals _ place below))
             ∙ mapped_or (object_number all (offset + place)) (slice_get u.globals place) place ∙ at
         | inr outside ↦
             let past : length u.globals ≤ place = ltb-false _ _ outside in

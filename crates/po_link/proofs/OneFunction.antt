@@ -6,17 +6,16 @@ use Rattle.std.proofs.lemmas.Bool.Decides.{eqb_tells}
 use Rattle.std.proofs.lemmas.List.{length-append, length-map}
 use Rattle.std.proofs.lemmas.List.Elements.{Contains-append_left, Contains-append_right}
 use Rattle.std.proofs.lemmas.Option.{same_Some, slice_get_within, get_or_from_slice_get}
+use Rattle.po_lists.proofs.Places.{mapped_from, first_at, second_at}
+use Rattle.po_lists.proofs.Members.{contains_head}
+use Rattle.po_lists.proofs.Booleans.{bool_cases}
 use Rattle.po_ir.specs.declared.project.Function.{Function}
 use Rattle.po_ir.specs.declared.unit.Unit.{Unit as FileUnit}
 use Rattle.po_ir.specs.General.{each_from}
-use Rattle.po_ir.proofs.General.{item_made_from}
 use Rattle.po_symbols.specs.Linking.{InFile, GivesBody, function_body, global_body}
-use Rattle.po_symbols.proofs.Places.{bool_cases}
-use Rattle.po_symbols.proofs.Contained.{contains_head}
 use Rattle.po_symbols.proofs.SaidOf.{in_file}
 use Rattle.po_link.specs.Joined.{functions_of, naming_of, joined_function, joined_functions}
 use Rattle.po_link.specs.Outcome.{ShowsOnce, OneFunctionEach}
-use Rattle.po_link.proofs.Joining.{first_at, second_at}
 
 -- where the function of the project stands in its file
 record Placed (units : List FileUnit) (n : ℕ) (xs : List FileUnit) (i : ℕ) (f : Function) : Type 0 where
@@ -37,14 +36,14 @@ placed units n (x ∷ xs) i f h =
     elim (bool_cases (nat_lt i (length all))) [
       | inl t ↦
           let below : i < length all = ltb-true _ _ t in
-          let r = item_made_from (joined_function (naming_of units n x) n) x.functions i f (sym (first_at all (each_from (joined_functions units) (n + 1) xs) i below) ∙ h) in
+          let r = mapped_from (joined_function (naming_of units n x) n) x.functions i f (sym (first_at all (each_from (joined_functions units) (n + 1) xs) i below) ∙ h) in
           let e : n ≡ n + 0 = omega arith in
           record { file = 0; place = i; u = x; from = r.0; unit_at = refl; function_at = r.1; number = (omega arith); same = subst (λ k. joined_function (naming_of units k x) k r.0 ≡ f) e r.2 }
       | inr past ↦
           let above : length all ≤ i = ltb-false _ _ past in
           let j = i - length all in
           let split : i ≡ length all + j = omega arith in
-          let later : slice_get (each_from (joined_functions units) (n + 1) xs) j ≡ Some f = sym (second_at all (each_from (joined_functions units) (n + 1) xs) j) ∙ ap (slice_get (all ++ each_from (joined_functions units) (n + 1) xs)) (sym split) ∙ h in
+          let later : slice_get (each_from (joined_functions units) (n + 1) xs) j ≡ Some f = sym (second_at all (each_from (joined_functions units) (n + 1) xs) (length all) j refl) ∙ ap (slice_get (all ++ each_from (joined_functions units) (n + 1) xs)) (sym split) ∙ h in
           let r = placed units (n + 1) xs j f later in
           let e : (n + 1) + r.file ≡ n + suc r.file = omega arith in
           let total = length-append (functions_of x) (flat_map functions_of (take r.file xs)) in

@@ -3,13 +3,13 @@ use Rattle.std.proofs.Common.{◌≡◌, ℕ, zero, suc, ◌+◌, ◌<◌, List,
 use Rattle.std.specs.Prelude.{Some, flat_map, slice_get, option_map}
 use Rattle.std.proofs.lemmas.List.{length-append, length-map}
 use Rattle.std.proofs.lemmas.Option.{same_Some, slice_get_within, slice_get-map}
+use Rattle.po_lists.proofs.Places.{first_at, second_at}
 use Rattle.po_ir.specs.declared.project.Function.{Function}
 use Rattle.po_ir.specs.declared.project.Project.{Project}
 use Rattle.po_ir.specs.declared.unit.Unit.{Unit as FileUnit}
 use Rattle.po_ir.specs.General.{each_from}
 use Rattle.po_link.specs.Joined.{functions_of, naming_of, joined_function, joined_functions, named_effects, OneProject, StandsByFile}
 use Rattle.po_link.proofs.Carried.{carried_effects, one_effects}
-use Rattle.po_link.proofs.Joining.{first_at, second_at}
 
 same_project : (p q : Project) → p.files ≡ q.files → p.opaque ≡ q.opaque → p.functions ≡ q.functions → p.globals ≡ q.globals → p.texts ≡ q.texts → p.effects ≡ q.effects → p.target ≡ q.target → p ≡ q
 same_project p q files opaque functions globals texts effects target =
@@ -47,7 +47,7 @@ stands units n (x ∷ xs) (suc i) place u f at here =
     let total = length-append (functions_of x) (flat_map functions_of (take i xs)) in
     let place_is : length (functions_of x ++ flat_map functions_of (take i xs)) + place ≡ length (joined_functions units n x) + (length (flat_map functions_of (take i xs)) + place) = omega arith in
     ap (slice_get (joined_functions units n x ++ each_from (joined_functions units) (n + 1) xs)) place_is
-    ∙ second_at (joined_functions units n x) (each_from (joined_functions units) (n + 1) xs) (length (flat_map functions_of (take i xs)) + place)
+    ∙ second_at (joined_functions units n x) (each_from (joined_functions units) (n + 1) xs) _ (length (flat_map functions_of (take i xs)) + place) refl
     ∙ stands units (n + 1) xs i place u f at here ∙ ap (λ k. Some (joined_function (naming_of units k u) k f)) e
 
 pub stands_by_file : StandsByFile

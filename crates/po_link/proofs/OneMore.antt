@@ -5,6 +5,8 @@ use Rattle.std.specs.List.{list_any}
 use Rattle.std.specs.Option.{option_or, is_some}
 use Rattle.std.proofs.lemmas.List.{take_more, length_push, take-append-drop, append-nil, length-take-le}
 use Rattle.std.proofs.lemmas.Option.{slice_get_within, get_or_from_slice_get, same_Some, none-some}
+use Rattle.po_lists.proofs.Booleans.{bool_cases}
+use Rattle.po_lists.proofs.Options.{option_cases}
 use Rattle.po_ir.specs.declared.project.Global.{Global}
 use Rattle.po_link.specs.declared.objects.Objects.{Objects}
 use Rattle.po_ir.specs.General.{each_from}
@@ -12,7 +14,7 @@ use Rattle.po_symbols.specs.Names.{named}
 use Rattle.po_link.specs.Joined.{is_shared, is_new, new_at, count_new, first_place, object_number, object_of, object_at, joined}
 use Rattle.po_link.specs.Objects.{AreObjects, AddsLocal, AddsFirst, AddsKnown, number_at}
 use Rattle.po_ir.proofs.General.{each_from-take}
-use Rattle.po_symbols.proofs.Places.{bool_cases, option_cases, position-push, position-front, any_place, same_bytes, bytes_same, and_right, mapped}
+use Rattle.po_symbols.proofs.Places.{position-push, position-front, any_place, same_bytes, bytes_same, and_right, mapped}
 
 -- what holds of one item more of each list
 added : {Y : Type 0} (f : ℕ → Global → List Y) (all : List Global) (place : ℕ) (g : Global) (ys before after : List Y) → slice_get all place ≡ Some g →

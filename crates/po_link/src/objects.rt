@@ -1,7 +1,8 @@
 ghost use Rattle.std.specs.Prelude.{◌≡◌, ◌≢◌, ◌++◌, ◌+◌, ◌∷◌, [], List, Some, cond, find, flat_map, option_copied, slice_get, length, IfOk, OnOk};
 ghost use Rattle.std.specs.List.{list_any};
 ghost use Rattle.po_symbols.specs.Names.{listed};
-ghost use Rattle.po_link.specs.Joined.{globals_of, has_size as gives_size, defines_size as gives_size_and_value, is_shared, shape_of as shape, joined};
+ghost use Rattle.po_link.specs.Joined.{globals_of, is_shared, joined};
+ghost use Rattle.po_link.specs.Joined as joining;
 ghost use Rattle.po_link.specs.Objects.{AreShared, AreObjects, AddsLocal, AddsFirst, AddsKnown};
 ghost use Rattle.po_ir.specs.declared.project.Global.{Global as GlobalOf};
 
@@ -83,32 +84,32 @@ fn all_shared(alloc: Global, all: &[Object]) -> Result<Named<List<Object>>, Memo
 }
 
 fn has_size(global: &Object) -> bool
-    ensures { result ≡ gives_size global.now }
+    ensures { result ≡ joining.has_size global.now }
 {
     global.size != 0
 }
 
 fn defines_size(global: &Object) -> bool
-    ensures { result ≡ gives_size_and_value global.now }
+    ensures { result ≡ joining.defines_size global.now }
 {
     global.defined && has_size(global)
 }
 
 fn first_defining(same: &[Object]) -> Option<&Object>
-    ensures { option_copied result ≡ find gives_size_and_value same.now }
+    ensures { option_copied result ≡ find joining.defines_size same.now }
 {
     same.iter().find(|global| defines_size(global))
 }
 
 fn first_sized(same: &[Object]) -> Option<&Object>
-    ensures { option_copied result ≡ find gives_size same.now }
+    ensures { option_copied result ≡ find joining.has_size same.now }
 {
     same.iter().find(|global| has_size(global))
 }
 
 /// The global whose size, alignment and type the object has.
 fn shape_of<'a>(first: &'a Object, same: &'a [Object]) -> &'a Object
-    ensures { result.now ≡ shape first.now same.now }
+    ensures { result.now ≡ joining.shape_of first.now same.now }
 {
     if let Some(global) = first_defining(same) {
         return global;

@@ -2,6 +2,9 @@
 use Rattle.std.specs.Prelude.{ℕ, suc, ◌+◌, ◌*◌, ◌≡◌, ◌≢◌, ◌≤◌, ◌<◌, ◌⊎◌, true, false, ℤ, pos, ◌+ℤ◌, ◌*ℤ◌, ◌≤ℤ◌, List, [], All, Some, None, Contains, length, slice_get, slice_set, slice_index_or}
 use Rattle.std.proofs.Common.{refl, sym, ap, ◌∙◌, subst, arith, inl, inr}
 use Rattle.std.proofs.lemmas.Int.{ints}
+use Rattle.po_lists.proofs.Places.{all_at, set_elsewhere, item_at}
+use Rattle.po_lists.proofs.Options.{one_value}
+use Rattle.po_lists.proofs.Members.{contains_head}
 use Rattle.po_base.specs.declared.numbers.RegNo.{RegNo}
 use Rattle.po_base.specs.declared.numbers.SlotNo.{SlotNo}
 use Rattle.po_base.specs.declared.operand.Opnd.{Opnd}
@@ -39,10 +42,10 @@ use Rattle.po_meaning.specs.Local.{Local}
 use Rattle.po_meaning.specs.Checks.{AllHold}
 use Rattle.po_meaning.specs.Belongs.{static_blocks, PointsThere, IsPartThere, Belongs}
 use Rattle.po_meaning.specs.Staying.{AreUnwritten}
-use Rattle.po_meaning.proofs.Places.{at_place, same_item, same_or_not, set_other, item_at, held_within, is_first}
+use Rattle.po_meaning.proofs.Places.{same_or_not, held_within}
 use Rattle.po_meaning.proofs.Frames.{told_at}
 use Rattle.po_meaning.proofs.Held.{asks_hold, on_pointer, on_number, load_spans, store_allowed, copy_spans, copy_writes}
-use Rattle.po_meaning.proofs.Memory.{Lives, Kept, kept_since, since_at, longer, bytes_still, belongs_after, set_here, set_all}
+use Rattle.po_meaning.proofs.Memory.{Lives, Kept, kept_since, since_at, longer, bytes_still, belongs_after, changed_here, set_all}
 use Rattle.po_meaning.proofs.Parts.{stored_there, copied_there, zeros_there, pasted_there, range_there, read_there, read_lies, read_size}
 use Rattle.po_meaning.proofs.Plain.{typed_as, fits_before, pointer_lies, pointer_there, put_stays, goes_stays, arrives}
 use Rattle.po_meaning.proofs.Results.{kept_value}
@@ -63,11 +66,11 @@ module _ (p : Project) (top : Frame) (rest : List Frame) (m : List Block) (at : 
     where
       by : (b ≡ block) ⊎ (b ≢ block) → (d : Block) × (slice_get after b ≡ Some d) × (d.bytes ≡ c.bytes)
       by (inl same) =
-          let known : whole ≡ c = same_item (slice_get m block) whole c there (subst (λ (i : ℕ). slice_get m i ≡ Some c) same here) in
+          let known : whole ≡ c = one_value (slice_get m block) whole c there (subst (λ (i : ℕ). slice_get m i ≡ Some c) same here) in
           let writable : whole.writable ≡ true = may (subst (λ (i : ℕ). i < static_blocks p) same static) in
           let clash : true ≡ false = sym writable ∙ (ap (λ (d : Block). d.writable) known ∙ fixed) in
           absurd (cc)
-      by (inr other) = (c, set_other m block b now other ∙ here, refl)
+      by (inr other) = (c, set_elsewhere m block b now other ∙ here, refl)
 
   kept : Kept Lives (static_blocks p) m after
   kept = kept_since (static_blocks p) false true m after since unwritten
@@ -75,9 +78,9 @@ module _ (p : Project) (top : Frame) (rest : List Frame) (m : List Block) (at : 
   size_kept : length now.bytes ≤ greatest_size
   size_kept =
       let found = since_at false true m after block whole since there in
-      let same : found.0 ≡ now = same_item (slice_get after block) found.0 now found.1 (set_here m block whole now there) in
+      let same : found.0 ≡ now = one_value (slice_get after block) found.0 now found.1 (changed_here m block whole now there) in
       let size : length now.bytes ≡ length whole.bytes = ap (λ (d : Block). length d.bytes) (sym same) ∙ found.2.size in
-      subst (λ (n : ℕ). n ≤ greatest_size) (sym size) (at_place (λ (c : Block). length c.bytes ≤ greatest_size) m block whole before.sizes there)
+      subst (λ (n : ℕ). n ≤ greatest_size) (sym size) (all_at (λ (c : Block). length c.bytes ≤ greatest_size) m block whole before.sizes there)
 
   more : length m ≤ length after
   more = longer Lives (static_blocks p) m after kept
@@ -86,7 +89,7 @@ module _ (p : Project) (top : Frame) (rest : List Frame) (m : List Block) (at : 
   parts_kept =
       set_all m block whole now there (λ (c : Block). All (IsPartThere p.target after) c.bytes)
       (λ i c within. bytes_still p.target m after (slice_index_or m i c).bytes more (before.pointers.blocks_point i c within))
-      (bytes_still p.target m after now.bytes more (pasted_there p.target m whole.bytes start bytes (at_place (λ (c : Block). All (IsPartThere p.target m) c.bytes) m block whole before.pointers.blocks_point there) parts))
+      (bytes_still p.target m after now.bytes more (pasted_there p.target m whole.bytes start bytes (all_at (λ (c : Block). All (IsPartThere p.target m) c.bytes) m block whole before.pointers.blocks_point there) parts))
 
   overwritten_stays : Belongs p (state top rest after)
   overwritten_stays = belongs_after p top rest m after Lives kept before (λ b dies. absurd dies) (λ k slot b has dies. dies)
@@ -115,7 +118,7 @@ moved_there p m Wild n sizes spans there = tt
 moved_there p m (Pointer block offset) n sizes spans there =
     let found = item_at m block there.block_there in
     let so : Spans n n offset found.0 = subst (OnBlock (Spans n n) offset) found.1 spans in
-    let small = at_place (λ (c : Block). length c.bytes ≤ greatest_size) m block found.0 sizes found.1 in
+    let small = all_at (λ (c : Block). length c.bytes ≤ greatest_size) m block found.0 sizes found.1 in
     record { block_there = there.block_there; offset_fits = inside_width p.target (length found.0.bytes) (offset +ℤ n) small so.0.0 so.0.1 }
 
 moved_lies : (v : Value) (n : ℤ) → LiesIn Ptr v → LiesIn Ptr (moved v n)
@@ -135,7 +138,7 @@ some_size target t size same pointer = access_size target size (same ∙ ap (siz
 module _ (stores : StoresKeep) (copies : CopiesKeep) (fills : FillsKeep) (required : Required) (library : List Signature) (p : Project) (r : Report Pred Rule) (f : Function) (s u : State) (whole : IsWhole library p) (held : AllHold required p r s) (before : Belongs p s)
     (below : u.rest ≡ s.rest) where
   fits_here : (i : Instr) → StandsAt p s.top f i → InstructionFits library p f i
-  fits_here i stands = (at_place (λ (g : Function). FunctionFits library p g) p.functions s.top.function.0 f whole.functions stands.of).instructions s.top.node.0 i stands.node
+  fits_here i stands = (all_at (λ (g : Function). FunctionFits library p g) p.functions s.top.function.0 f whole.functions stands.of).instructions s.top.node.0 i stands.node
 
   -- the next node follows, and the blocks changed
   on_after : (i : Instr) (after : List Block) → StandsAt p s.top f i → Contains (followers s.top.node.0 i) (s.top.node.0 + 1) → written i ≡ None → entered i ≡ None → Belongs p (state s.top s.rest after) → u.top ≡ onward s.top → u.memory ≡ after → Belongs p u
@@ -153,7 +156,7 @@ module _ (stores : StoresKeep) (copies : CopiesKeep) (fills : FillsKeep) (requir
       let target = typed_as f.graph to (λ t. IsKept Ptr t) fits.result_fits in
       let lies = pointer_lies p f s stands.of before base v fits.operands_lie.0 is in
       arrives p u (put to (moved v (factor *ℤ i)) s.top) s.rest s.memory top below memory
-      (put_stays p f s stands.of before (PtrAdd to base index factor) to (moved v (factor *ℤ i)) target.register stands (is_first _ []) refl refl target.there
+      (put_stays p f s stands.of before (PtrAdd to base index factor) to (moved v (factor *ℤ i)) target.register stands (contains_head _ []) refl refl target.there
       (kept_value Ptr target.register.ty (moved v (factor *ℤ i)) target.typed (moved_lies v (factor *ℤ i) lies))
       (moved_there p s.memory v (factor *ℤ i) before.sizes spans (pointer_there p f s stands.of before base v is)))
 
@@ -174,13 +177,13 @@ module _ (stores : StoresKeep) (copies : CopiesKeep) (fills : FillsKeep) (requir
       let count = read_size s.memory v access.size bytes reads (load_spans s.top s.memory at v is access asked) in
       let target = typed_as f.graph to (λ t. IsKept access.ty t) fits.result_fits in
       arrives p u (put to x s.top) s.rest s.memory top below memory
-      (put_stays p f s stands.of before (Load to at access) to x target.register stands (is_first _ []) refl refl target.there
+      (put_stays p f s stands.of before (Load to at access) to x target.register stands (contains_head _ []) refl refl target.there
       (kept_value access.ty target.register.ty x target.typed (read_lies access.ty x bytes are))
       (read_points access.ty x access.size bytes fits.numbers_fit.0 count are (range_there p.target s.memory v access.size bytes reads before.pointers.blocks_point)))
 
   value_points : IsOf p s.top f → (t : Ty) (a : Opnd) (x : Value) → value_at s.top t a ≡ Some x → PointsThere p.target s.memory x
   value_points of (Int t) (operand.Reg n) x is = pointer_there p f s of before (operand.Reg n) x is
-  value_points of (Int t) (operand.Num n) x is = subst (PointsThere p.target s.memory) (same_item (Some (Number n)) (Number n) x refl is) tt
+  value_points of (Int t) (operand.Num n) x is = subst (PointsThere p.target s.memory) (one_value (Some (Number n)) (Number n) x refl is) tt
   value_points of Ptr a x is = pointer_there p f s of before a x is
 
   pub store_stays : (at value : Opnd) (access : Access) → StandsAt p s.top f (Store at value access) → Local p f.graph (Store at value access) s.top s.memory u.top u.memory → Belongs p u
@@ -189,7 +192,7 @@ module _ (stores : StoresKeep) (copies : CopiesKeep) (fills : FillsKeep) (requir
       let allowed = store_allowed s.top s.memory at v is access asked in
       let since = stores access s.memory v x u.memory allowed (bytes, are, writes) in
       let parts = stored_there p.target s.memory access.size x bytes are (value_points stands.of access.ty value x given) in
-      on_after (Store at value access) u.memory stands (is_first _ []) refl refl
+      on_after (Store at value access) u.memory stands (contains_head _ []) refl refl
       (written_stays p s.top s.rest s.memory v bytes u.memory writes since (λ static. writable_there s.memory v bytes u.memory writes allowed.writable) parts before) top refl
 
   pub copy_stays : (to from : Opnd) (size align : ℕ) → StandsAt p s.top f (CopyBytes to from size align) → Local p f.graph (CopyBytes to from size align) s.top s.memory u.top u.memory → Belongs p u
@@ -198,7 +201,7 @@ module _ (stores : StoresKeep) (copies : CopiesKeep) (fills : FillsKeep) (requir
       let since = copies size s.memory v x u.memory (copy_spans s.top s.memory to v is from size align asked) copied in
       let source = range_there p.target s.memory x size copied.source copied.reads before.pointers.blocks_point in
       let parts = copied_there p.target s.memory copied.source copied.old copied.bytes copied.copied source in
-      on_after (CopyBytes to from size align) u.memory stands (is_first _ []) refl refl
+      on_after (CopyBytes to from size align) u.memory stands (contains_head _ []) refl refl
       (written_stays p s.top s.rest s.memory v copied.bytes u.memory copied.writes since (λ static. writable_there s.memory v copied.bytes u.memory copied.writes (copy_writes s.top s.memory to v is from size align asked)) parts before) top refl
 
   slot_spans : (b size : ℕ) (c : Block) → slice_get s.memory b ≡ Some c → size ≤ length c.bytes → OnPointer (Spans (pos 0) (pos size)) s.memory (Pointer b (pos 0))
@@ -216,5 +219,5 @@ module _ (stores : StoresKeep) (copies : CopiesKeep) (fills : FillsKeep) (requir
       let same : Pointer b (pos 0) ≡ Pointer writes.block (pos writes.start) = writes.points.pointer in
       let here : b ≡ writes.block = cc in
       let own : static_blocks p ≤ writes.block = subst (λ (k : ℕ). static_blocks p ≤ k) here block.2.own in
-      on_after (Fill slot size) u.memory stands (is_first _ []) refl refl
+      on_after (Fill slot size) u.memory stands (contains_head _ []) refl refl
       (written_stays p s.top s.rest s.memory (Pointer b (pos 0)) (zeros size) u.memory writes since (λ static. absurd (omega (arith, own, static))) (zeros_there p.target s.memory size) before) top refl

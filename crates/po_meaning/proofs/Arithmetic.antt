@@ -9,6 +9,7 @@ use Rattle.std.proofs.lemmas.Int.{ints}
 use Rattle.std.proofs.lemmas.Nat.{pow_pos}
 use Rattle.std.proofs.lemmas.Bool.{and_parts}
 use Rattle.std.proofs.lemmas.Bool.Decides.{Decides-int_eq}
+use Rattle.po_lists.proofs.Booleans.{false_unless_true}
 use Rattle.po_base.specs.declared.operators.Op.{Op}
 use Rattle.po_base.specs.declared.operators.Op.TheVariants as op
 use Rattle.po_base.specs.declared.operators.UnOp.{UnOp}
@@ -127,16 +128,8 @@ count_is t n some low high =
 
 -- ---- operators
 
-two_way : (b : Bool) → (b ≡ true) ⊎ (b ≡ false)
-two_way true = inl refl
-two_way false = inr refl
-
 not_false : (b : Bool) → b ≡ false → not b ≡ true
 not_false b is = ap not is
-
-isnt : (b : Bool) → (b ≡ true → ⊥) → b ≡ false
-isnt true no_way = absurd (no_way refl)
-isnt false no_way = refl
 
 module _ (fr : Frame) (m : List Block) (t : IntType) (is : IsIntType t) (a : Opnd) (v : ℤ) (has : Is fr a v) (lies : IsOfType t v) where
   module _ (b : Opnd) (w : ℤ) (had : Is fr b w) where
@@ -161,8 +154,8 @@ module _ (fr : Frame) (m : List Block) (t : IntType) (is : IsIntType t) (a : Opn
         (can_divide t v w ≡ true) × (t.signed ≡ true → (v ≡ neg_ℤ (pos (half t.bits))) × (w ≡ negsuc 0) → ⊥)
     divides o means nonzero h = (
       both (not (int_eq w (pos 0))) (not (t.signed && int_eq v (least t) && int_eq w (neg_ℤ (pos 1))))
-          (not_false (int_eq w (pos 0)) (isnt (int_eq w (pos 0)) (λ same. on_number fr b w (λ z. z ≢ pos 0) had nonzero ((Decides-int_eq w (pos 0)).0 same))))
-          (not_false (t.signed && int_eq v (least t) && int_eq w (neg_ℤ (pos 1))) (isnt (t.signed && int_eq v (least t) && int_eq w (neg_ℤ (pos 1))) clash)),
+          (not_false (int_eq w (pos 0)) (false_unless_true (int_eq w (pos 0)) (λ same. on_number fr b w (λ z. z ≢ pos 0) had nonzero ((Decides-int_eq w (pos 0)).0 same))))
+          (not_false (t.signed && int_eq v (least t) && int_eq w (neg_ℤ (pos 1))) (false_unless_true (t.signed && int_eq v (least t) && int_eq w (neg_ℤ (pos 1))) clash)),
       never,
     )
       where

@@ -3,6 +3,7 @@ use Rattle.std.specs.Prelude.{ℕ, zero, suc, ◌-◌, ◌≡◌, ◌≤◌, ◌
 use Rattle.std.proofs.Common.{refl, sym, ap, ◌∙◌, subst, arith, inl, inr, length-append}
 use Rattle.std.proofs.lemmas.List.{length-map, length-replicate, length-take-le}
 use Rattle.std.proofs.lemmas.List.Elements.{All-nil, All-cons}
+use Rattle.po_lists.proofs.Places.{all_at}
 use Rattle.po_base.specs.declared.numbers.FunNo.{FunNo}
 use Rattle.po_base.specs.declared.numbers.RegNo.{RegNo}
 use Rattle.po_base.specs.declared.operand.Opnd.{Opnd}
@@ -33,7 +34,6 @@ use Rattle.po_meaning.specs.States.{State, IsOf, StandsAt, start_registers, star
 use Rattle.po_meaning.specs.Steps.{Enters}
 use Rattle.po_meaning.specs.Needs.{Needs}
 use Rattle.po_meaning.specs.Belongs.{HasSome, FrameBelongs, HasEntered, IsOfSlot, PointsThere, FramePoints, Belongs}
-use Rattle.po_meaning.proofs.Places.{at_place}
 use Rattle.po_meaning.proofs.Frames.{Fits, belongs_of, told_at}
 use Rattle.po_meaning.proofs.Entry.{LieIn, lie_in}
 use Rattle.po_meaning.proofs.Plain.{typed_as, pointer_lies, pointer_there, register_lies, arrives}
@@ -154,7 +154,7 @@ module _ (library : List Signature) (p : Project) (f : Function) (s u : State) (
   now = start_frame n callee values
 
   called : FunctionFits library p callee
-  called = at_place (FunctionFits library p) p.functions n.0 callee whole.functions enters.is_there
+  called = all_at (FunctionFits library p) p.functions n.0 callee whole.functions enters.is_there
 
   type_count : length (parameter_types callee) ≡ callee.graph.params
   type_count = length-map (take callee.graph.params callee.graph.regs) type_of ∙ length-take-le callee.graph.params callee.graph.regs called.parameters.there
@@ -181,7 +181,7 @@ module _ (library : List Signature) (p : Project) (f : Function) (s u : State) (
 
   call_fits : (IsUnread callee → ⊥) → CallFits f.graph to args callee
   call_fits = told_at (slice_get p.functions n.0) (λ (c : Function). (IsUnread c → ⊥) → CallFits f.graph to args c) callee enters.is_there
-      (((at_place (FunctionFits library p) p.functions s.top.function.0 f whole.functions stands.of).instructions s.top.node.0 (Call to (Fun n) args strings) stands.node).callees_fit)
+      (((all_at (FunctionFits library p) p.functions s.top.function.0 f whole.functions stands.of).instructions s.top.node.0 (Call to (Fun n) args strings) stands.node).callees_fit)
 
   argument_count : (IsUnread callee → ⊥) → length values ≡ callee.graph.params
   argument_count isnt = passed_values s.top (parameter_types callee) args values enters.passed ∙ (passes_all f.graph (parameter_types callee) args (call_fits isnt).passes ∙ type_count)
@@ -202,7 +202,7 @@ module _ (library : List Signature) (p : Project) (f : Function) (s u : State) (
 
   points_now : FramePoints p.target s.memory now
   points_now = record {
-    registers = λ r v has. let found = start_value callee.graph.params rest_count values r v enough has in at_place (PointsThere p.target s.memory) values r v all_there found.1;
+    registers = λ r v has. let found = start_value callee.graph.params rest_count values r v enough has in all_at (PointsThere p.target s.memory) values r v all_there found.1;
     arguments = all_there;
   }
 

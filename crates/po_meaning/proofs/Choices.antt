@@ -8,6 +8,7 @@ use Rattle.std.proofs.lemmas.Int.{ints}
 use Rattle.std.proofs.lemmas.Bool.{cases_lt}
 use Rattle.std.proofs.lemmas.List.{length-set}
 use Rattle.std.proofs.lemmas.List.Elements.{All-head, All-tail}
+use Rattle.po_lists.proofs.Places.{item_at}
 use Rattle.po_base.specs.declared.operators.Op.{Op}
 use Rattle.po_base.specs.declared.operators.Op.TheVariants as op
 use Rattle.po_arith.specs.declared.int_type.IntType.{IntType}
@@ -32,7 +33,7 @@ use Rattle.po_memory.proofs.ReadBytes.{access_size, chosen, chosen_none, may_be_
 use Rattle.po_memory.proofs.WrittenBytes.{bytes_stored}
 use Rattle.po_meaning.specs.Pointers.{compares, MayEqual, MayOrder, MayCompare}
 use Rattle.po_meaning.specs.Steps.{KillsAll}
-use Rattle.po_meaning.proofs.Places.{item_at, same_or_not}
+use Rattle.po_meaning.proofs.Places.{same_or_not}
 
 -- ---- numbers
 

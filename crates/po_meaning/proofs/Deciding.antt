@@ -3,12 +3,14 @@ use Rattle.std.specs.Prelude.{ℕ, zero, suc, ◌≡◌, ◌≢◌, ◌≤◌, �
 use Rattle.std.proofs.Common.{subst, arith, inl, inr}
 use Rattle.std.proofs.lemmas.Option.{slice_get_within}
 use Rattle.std.proofs.lemmas.Bool.{cases_order}
+use Rattle.po_lists.proofs.Options.{one_value}
+use Rattle.po_lists.proofs.Places.{item_at}
 use Rattle.po_core.specs.declared.obl.Obl.{Obl}
 use Rattle.po_pred.specs.declared.pred.Pred.{Pred}
 use Rattle.po_memory.specs.Holding.{Holds}
 use Rattle.po_meaning.specs.Checks.{Asked, asked, AllHold, FirstViolated}
 use Rattle.po_meaning.specs.Following.{IsDecided, OneOrAll}
-use Rattle.po_meaning.proofs.Places.{same_item, same_or_not, item_at}
+use Rattle.po_meaning.proofs.Places.{same_or_not}
 
 -- the first item that isn't so
 pub record First (xs : List Asked) (P : Asked → Type 0) : Type 0 where
@@ -26,7 +28,7 @@ module _ (xs : List Asked) (P : Asked → Type 0) (decided : (j : ℕ) (a : Aske
   one_more n below a there is j b less here = by (same_or_not j n)
     where
       by : (j ≡ n) ⊎ (j ≢ n) → P b
-      by (inl same) = subst P (same_item (slice_get xs n) a b there (subst (λ (k : ℕ). slice_get xs k ≡ Some b) same here)) is
+      by (inl same) = subst P (one_value (slice_get xs n) a b there (subst (λ (k : ℕ). slice_get xs k ≡ Some b) same here)) is
       by (inr other) = below j b (below_of (cases_order j n)) here
         where
           below_of : (j ≡ n) ⊎ ((j < n) ⊎ (n < j)) → j < n

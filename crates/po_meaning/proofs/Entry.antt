@@ -3,6 +3,7 @@ use Rattle.std.specs.Prelude.{ℕ, ◌≡◌, ◌↔◌, false, List, [], ◌∷
 use Rattle.std.proofs.Common.{refl, sym, ap, ◌∙◌, subst, inl, inr}
 use Rattle.std.specs.List.{AllZip}
 use Rattle.std.proofs.Math.Seq.{take-nil}
+use Rattle.po_lists.proofs.Places.{all_at}
 use Rattle.po_base.specs.declared.numbers.FunNo.{FunNo}
 use Rattle.po_base.specs.declared.numbers.RegNo.{RegNo}
 use Rattle.po_base.specs.declared.operand.Opnd.{Opnd}
@@ -27,7 +28,6 @@ use Rattle.po_pred.specs.Subst.{put_in}
 use Rattle.po_meaning.specs.Operands.{value_at, ArePassed}
 use Rattle.po_meaning.specs.States.{StandsAt}
 use Rattle.po_meaning.specs.Laws.{EntryKeepsHolds}
-use Rattle.po_meaning.proofs.Places.{at_place}
 
 same_value : (v w : Value) → Some v ≡ Some w → w ≡ v
 same_value v w same = cc
@@ -66,8 +66,8 @@ fits_at x P callee there given = subst (λ (o : Option Function). MatchOption o 
 pub lie_in : (library : List Signature) (p : Project) (f : Function) (to : Option RegNo) (n : FunNo) (args : List Opnd) (strings : List ℕ) (caller : Frame) (callee : Function) →
     IsWhole library p → StandsAt p caller f (Call to (Fun n) args strings) → slice_get p.functions n.0 ≡ Some callee → LieIn f.graph (parameter_types callee) args
 lie_in library p f to n args strings caller callee whole stands there t rest same =
-    let fits : FunctionFits library p f = at_place (FunctionFits library p) p.functions caller.function.0 f whole.functions stands.of in
-    let called : FunctionFits library p callee = at_place (FunctionFits library p) p.functions n.0 callee whole.functions there in
+    let fits : FunctionFits library p f = all_at (FunctionFits library p) p.functions caller.function.0 f whole.functions stands.of in
+    let called : FunctionFits library p callee = all_at (FunctionFits library p) p.functions n.0 callee whole.functions there in
     let call : CallFits f.graph to args callee = fits_at (slice_get p.functions n.0) (λ (c : Function). (IsUnread c → ⊥) → CallFits f.graph to args c) callee there
     ((fits.instructions caller.node.0 _ stands.node).callees_fit) (λ unread. no_types callee t rest (called.unread_has_nothing unread).0 same) in
     call.passes

@@ -4,6 +4,8 @@ use Rattle.std.proofs.Common.{refl, sym, ◌∙◌, subst, arith, inl, inr}
 use Rattle.std.proofs.lemmas.Bool.{and_parts}
 use Rattle.std.proofs.lemmas.Int.{ints}
 use Rattle.std.proofs.lemmas.Option.{slice_get_within}
+use Rattle.po_lists.proofs.Places.{all_at, all_tail, all_head, item_at}
+use Rattle.po_memory.proofs.General.{one_number}
 use Rattle.po_base.specs.declared.numbers.FunNo.{FunNo}
 use Rattle.po_base.specs.declared.numbers.LibNo.{LibNo}
 use Rattle.po_base.specs.declared.numbers.NodeNo.{NodeNo}
@@ -29,7 +31,7 @@ use Rattle.po_ir.specs.declared.instr.Instr.TheVariants.{Const, Copy, Bin, Un, C
 use Rattle.po_ir.specs.declared.instr.Local.TheVariants as variable
 use Rattle.po_ir.specs.declared.project.Function.{Function}
 use Rattle.po_ir.specs.declared.project.Project.{Project}
-use Rattle.po_ir.specs.IntTypes.{types_in, HasTypesOfTarget}
+use Rattle.po_ir.specs.IntTypes.{types_in}
 use Rattle.po_ir.specs.IntTypes as ir
 use Rattle.po_ir.specs.Instructions.{operands, used}
 use Rattle.po_ir.specs.Types.{TypeIs, IsKept, IsValue, IsInteger, Lies, LiesAmongIntegers, is_comparison, is_shift}
@@ -64,7 +66,6 @@ use Rattle.po_meaning.proofs.Entry.{lie_in}
 use Rattle.po_meaning.proofs.Having.{In, register_set, operand_value, operand_number, operand_integer, operand_pointer}
 use Rattle.po_meaning.proofs.Held.{Each, asks_hold, on_pointer, on_number, spanned}
 use Rattle.po_meaning.proofs.Parts.{read_size}
-use Rattle.po_meaning.proofs.Places.{at_place, item_at, All-head, All-tail}
 use Rattle.po_meaning.proofs.Plain.{typed_as, fits_before, register_lies}
 use Rattle.po_meaning.proofs.Slots.{entered_block}
 use Rattle.po_meaning.proofs.States.{state}
@@ -75,8 +76,8 @@ none_or_more (first ∷ others) = inr (first, others, refl)
 
 in_all : {X : Type 0} (P : X → Type 0) (xs : List X) (x : X) → All P xs → In xs x → P x
 in_all P [] x all among = absurd among
-in_all P (y ∷ xs) x all (inl same) = subst P same (All-head P y xs all)
-in_all P (y ∷ xs) x all (inr among) = in_all P xs x (All-tail P y xs all) among
+in_all P (y ∷ xs) x all (inl same) = subst P same (all_head P y xs all)
+in_all P (y ∷ xs) x all (inr among) = in_all P xs x (all_tail P y xs all) among
 
 module _ (required : Required) (library : List Signature) (p : Project) (r : Report Pred Rule) (f : Function) (s : State) (whole : IsWhole library p) (held : AllHold required p r s) (before : Belongs p s) where
   abbrev H : Pred → Type 0
@@ -84,7 +85,7 @@ module _ (required : Required) (library : List Signature) (p : Project) (r : Rep
 
   module _ (i : Instr) (stands : StandsAt p s.top f i) where
     function : FunctionFits library p f
-    function = at_place (FunctionFits library p) p.functions s.top.function.0 f whole.functions stands.of
+    function = all_at (FunctionFits library p) p.functions s.top.function.0 f whole.functions stands.of
 
     fits : InstructionFits library p f i
     fits = function.instructions s.top.node.0 i stands.node
@@ -93,10 +94,10 @@ module _ (required : Required) (library : List Signature) (p : Project) (r : Rep
     asked = asks_hold required p r s f i stands held
 
     names : NamesParts f.graph i
-    names = subst (NamesParts f.graph) stands.node.2 (at_place (λ (n : Node). NamesParts f.graph n.instr) f.graph.nodes s.top.node.0 stands.node.0 function.valid.0 stands.node.1)
+    names = subst (NamesParts f.graph) stands.node.2 (all_at (λ (n : Node). NamesParts f.graph n.instr) f.graph.nodes s.top.node.0 stands.node.0 function.valid.0 stands.node.1)
 
     types : All ir.IsTypeOfTarget (types_in i)
-    types = subst (λ (j : Instr). All ir.IsTypeOfTarget (types_in j)) stands.node.2 (at_place (λ (n : Node). All ir.IsTypeOfTarget (types_in n.instr)) f.graph.nodes s.top.node.0 stands.node.0 function.types.instructions stands.node.1)
+    types = subst (λ (j : Instr). All ir.IsTypeOfTarget (types_in j)) stands.node.2 (all_at (λ (n : Node). All ir.IsTypeOfTarget (types_in n.instr)) f.graph.nodes s.top.node.0 stands.node.0 function.types.instructions stands.node.1)
 
     int_of : (t : IntType) → In (types_in i) (Int t) → IsIntType t
     int_of t among = in_all ir.IsTypeOfTarget (types_in i) (Int t) types among
@@ -176,10 +177,7 @@ module _ (required : Required) (library : List Signature) (p : Project) (r : Rep
   keeps_number i t (operand.Reg n) v stands lies has kept =
       let reg = typed_as f.graph n IsInteger lies in
       kept_number t reg.register.ty v (subst (λ (o : Option Register). keeps_register t o ≡ true) reg.there kept) (register_lies p f s stands.of before n reg.register (Number v) reg.there has)
-  keeps_number i t (operand.Num n) v stands lies has kept = let same : n ≡ v = number_same n v has in subst (IsOfType t) same (is_between_type t n kept)
-    where
-      number_same : (x y : ℤ) → Some (Number x) ≡ Some (Number y) → x ≡ y
-      number_same x y same = cc
+  keeps_number i t (operand.Num n) v stands lies has kept = let same : n ≡ v = one_number n v has in subst (IsOfType t) same (is_between_type t n kept)
 
   in_range : (t : IntType) (a : Opnd) (v : ℤ) (c : Bool) → Is s.top a v → t.signed ≡ true → (c ≡ true → IsOfType t v) → Each H (cond (t.signed && not c) (in_type t (place a) ∷ []) []) → IsOfType t v
   in_range t a v true has signed kept h = kept refl
@@ -284,7 +282,7 @@ module _ (required : Required) (library : List Signature) (p : Project) (r : Rep
       let one = pointer_of i stands a (inl refl) (fits i stands).operands_lie.0 in
       let other = pointer_of i stands b (inr (inl refl)) (fits i stands).operands_lie.1 in
       let target = typed_as f.graph to IsInteger (fits i stands).result_fits in
-      let typed = at_place (λ (x : Register). ir.IsTypeOfTarget x.ty) f.graph.regs to.0 target.register (function i stands).types.registers target.there in
+      let typed = all_at (λ (x : Register). ir.IsTypeOfTarget x.ty) f.graph.regs to.0 target.register (function i stands).types.registers target.there in
       let result = distance_some size a b one.0 other.0 target.register.ty one.1 other.1 (in_one_block a b one.0 other.0 one.1 other.1 (asked i stands)) target.typed typed in
       inl (state (put to result.0 s.top) s.rest s.memory, ((result.0, type_is to target.register (λ t. IsDistance size s.top a b t result.0) target.there result.1, refl, refl), refl))
 

@@ -4,6 +4,8 @@ use Rattle.std.specs.Prelude.{ℕ, suc, ◌+◌, ◌≡◌, ◌≢◌, ◌<◌, 
 use Rattle.std.proofs.Common.{sym, ap, ◌∙◌, subst, arith, inl, inr}
 use Rattle.std.proofs.lemmas.List.{length-set}
 use Rattle.std.proofs.lemmas.Option.{slice_get_within}
+use Rattle.po_lists.proofs.Options.{one_value}
+use Rattle.po_lists.proofs.Places.{set_here, set_elsewhere}
 use Rattle.po_base.specs.declared.numbers.NodeNo.{NodeNo}
 use Rattle.po_base.specs.declared.numbers.RegNo.{RegNo}
 use Rattle.po_base.specs.declared.numbers.SlotNo.{SlotNo}
@@ -23,7 +25,7 @@ use Rattle.po_meaning.specs.Operands.{at_node, put, without_value}
 use Rattle.po_meaning.specs.States.{IsOf}
 use Rattle.po_meaning.specs.Needs.{NeedsRegister, NeedsSlot}
 use Rattle.po_meaning.specs.Belongs.{HasPlace, HasTypes, HasSome, HasValues, HasSlots, FrameBelongs}
-use Rattle.po_meaning.proofs.Places.{same_item, set_same, set_other, same_or_not}
+use Rattle.po_meaning.proofs.Places.{same_or_not}
 
 -- ---- ways on
 
@@ -39,16 +41,16 @@ slot_before g s n m i at to other needs = (suc needs.0, (i, m, at, other, to, ne
 -- ---- registers
 
 pub put_value : (fr : Frame) (to : RegNo) (v : Value) → to.0 < length fr.regs → register_value (put to v fr) to.0 ≡ Some v
-put_value fr to v within = ap held (set_same fr.regs to.0 (Some v) within)
+put_value fr to v within = ap held (set_here fr.regs to.0 (Some v) within)
 
 pub put_others : (fr : Frame) (to : RegNo) (v : Value) (r : ℕ) → r ≢ to.0 → register_value (put to v fr) r ≡ register_value fr r
-put_others fr to v r other = ap held (set_other fr.regs to.0 r (Some v) other)
+put_others fr to v r other = ap held (set_elsewhere fr.regs to.0 r (Some v) other)
 
 pub no_value : (fr : Frame) (to : RegNo) → to.0 < length fr.regs → register_value (without_value to fr) to.0 ≡ None
-no_value fr to within = ap held (set_same fr.regs to.0 None within)
+no_value fr to within = ap held (set_here fr.regs to.0 None within)
 
 pub without_others : (fr : Frame) (to : RegNo) (r : ℕ) → r ≢ to.0 → register_value (without_value to fr) r ≡ register_value fr r
-without_others fr to r other = ap held (set_other fr.regs to.0 r None other)
+without_others fr to r other = ap held (set_elsewhere fr.regs to.0 r None other)
 
 pub some_not_none : {X : Type 0} (o : Option X) (x : X) → o ≡ None → o ≡ Some x → ⊥
 some_not_none o x a b = absurd (cc)
@@ -62,7 +64,7 @@ pub record Fits (f : Function) (fr : Frame) : Type 0 where
   pub slots : HasSlots f fr
 
 pub fits_of : (p : Project) (f : Function) (fr : Frame) → IsOf p fr f → FrameBelongs p fr → Fits f fr
-fits_of p f fr of k = subst (λ (g : Function). Fits g fr) (same_item _ k.function f k.of of) (record { place = k.place; types = k.types; values = k.values; slots = k.slots })
+fits_of p f fr of k = subst (λ (g : Function). Fits g fr) (one_value _ k.function f k.of of) (record { place = k.place; types = k.types; values = k.values; slots = k.slots })
 
 pub belongs_of : (p : Project) (f : Function) (fr : Frame) → IsOf p fr f → Fits f fr → FrameBelongs p fr
 belongs_of p f fr of k = record { function = f; of = of; place = k.place; types = k.types; values = k.values; slots = k.slots }
@@ -86,8 +88,8 @@ module _ (f : Function) (fr : Frame) (to : RegNo) (v : Value) (register : Regist
 
   put_type : LiesIn register.ty v → (r : ℕ) (other : Register) (w : Value) → slice_get f.graph.regs r ≡ Some other → register_value (put to v fr) r ≡ Some w → (r ≡ to.0) ⊎ (r ≢ to.0) → LiesIn other.ty w
   put_type lies r other w here is (inl same) =
-      let register_same : register ≡ other = same_item _ register other there (subst (λ (j : ℕ). slice_get f.graph.regs j ≡ Some other) same here) in
-      let value_same : v ≡ w = same_item _ v w (put_value fr to v within) (subst (λ (j : ℕ). register_value (put to v fr) j ≡ Some w) same is) in
+      let register_same : register ≡ other = one_value _ register other there (subst (λ (j : ℕ). slice_get f.graph.regs j ≡ Some other) same here) in
+      let value_same : v ≡ w = one_value _ v w (put_value fr to v within) (subst (λ (j : ℕ). register_value (put to v fr) j ≡ Some w) same is) in
       subst (λ (x : Value). LiesIn other.ty x) value_same (subst (λ (x : Register). LiesIn x.ty v) register_same lies)
   put_type lies r other w here is (inr not_same) = k.types.registers r other w here (sym (put_others fr to v r not_same) ∙ is)
 
@@ -96,7 +98,7 @@ module _ (f : Function) (fr : Frame) (to : RegNo) (v : Value) (register : Regist
   put_some r (inr not_same) before = let some = before not_same in (some.0, put_others fr to v r not_same ∙ some.1)
 
   other_written : (i : Instr) (r : RegNo) → written i ≡ Some to → r.0 ≢ to.0 → written i ≡ Some r → ⊥
-  other_written i r is other same = other (ap (λ (x : RegNo). x.0) (sym (same_item (written i) to r is same)))
+  other_written i r is other same = other (ap (λ (x : RegNo). x.0) (sym (one_value (written i) to r is same)))
 
   -- a step to the next node that writes the register and enters no slot
   pub fits_put : (i : Instr) → NodeAt f.graph fr.node.0 i → Contains (followers fr.node.0 i) (fr.node.0 + 1) → written i ≡ Some to → entered i ≡ None → LiesIn register.ty v → Fits f (put to v fr)

@@ -1,9 +1,12 @@
 -- What holds of the operands of an instruction where all obligations at its node do.
-use Rattle.std.specs.Prelude.{ℕ, zero, suc, ◌+◌, ◌≡◌, ltb, ℤ, pos, negsuc, ◌+ℤ◌, ◌*ℤ◌, List, [], ◌∷◌, ◌++◌, All, Bool, true, false, cond, Option, Some, slice_get}
+use Rattle.std.specs.Prelude.{ℕ, zero, suc, ◌+◌, ◌≡◌, ltb, ℤ, pos, ◌+ℤ◌, ◌*ℤ◌, List, [], ◌∷◌, ◌++◌, All, Bool, true, false, cond, Option, Some, slice_get}
 use Rattle.std.proofs.Common.{refl, sym, ap, ◌∙◌, subst, arith}
 use Rattle.std.proofs.lemmas.Int.{ints}
 use Rattle.std.proofs.lemmas.Bool.{lt-ltb}
 use Rattle.std.proofs.lemmas.List.Elements.{All-nil, All-cons}
+use Rattle.std.proofs.lemmas.Option.{same_Some}
+use Rattle.po_lists.proofs.Integers.{once}
+use Rattle.po_memory.proofs.General.{one_number}
 use Rattle.po_base.specs.declared.numbers.FunNo.{FunNo}
 use Rattle.po_base.specs.declared.numbers.NodeNo.{NodeNo}
 use Rattle.po_base.specs.declared.operand.Opnd.{Opnd}
@@ -55,14 +58,11 @@ pub each_all : {X : Type 0} (P : X → Type 0) (xs : List X) → Each P xs → A
 each_all P [] h = All-nil P
 each_all P (x ∷ xs) h = All-cons P x xs h.0 (each_all P xs h.1)
 
-some_is : {X : Type 0} (x y : X) → Some x ≡ Some y → x ≡ y
-some_is x y same = cc
-
 -- ---- what an instruction asks holds
 
 asked_at : (f : FunNo) (n : NodeNo) (k : ℕ) (qs : List Pred) (j : ℕ) (q : Pred) (more : List Asked) → slice_get qs j ≡ Some q → (o : Obl Pred) × (slice_get (numbered f n k qs ++ more) j ≡ Some (o, q))
 asked_at f n k [] j q more here = absurd (cc)
-asked_at f n k (x ∷ qs) zero q more here = (obligation f n (Primary k), ap (λ (y : Pred). Some (obligation f n (Primary k), y)) (some_is x q here))
+asked_at f n k (x ∷ qs) zero q more here = (obligation f n (Primary k), ap (λ (y : Pred). Some (obligation f n (Primary k), y)) (same_Some x q here))
 asked_at f n k (x ∷ qs) (suc j) q more here = asked_at f n (k + 1) qs j q more here
 
 gen_is : (required : Required) (p : Project) (frame : Frame) (f : Function) (i : Instr) → StandsAt p frame f i → gen required p frame.function frame.node ≡ gen_instr required f.graph i
@@ -91,26 +91,16 @@ unmoved Null = refl
 unmoved (Pointer block offset) = let same : offset ≡ offset +ℤ pos 0 = omega (arith, ints) in ap (Pointer block) same
 unmoved Wild = refl
 
-value_is : (v w : Value) → Some v ≡ Some w → v ≡ w
-value_is v w same = cc
-
-number_is : (v w : ℤ) → Some (Number v) ≡ Some (Number w) → v ≡ w
-number_is v w same = cc
-
 pub on_pointer : (fr : Frame) (a : Opnd) (v : Value) (IsSo : Value → Type 0) → pointer_value fr a ≡ Some v → EachPointer fr (place a) IsSo → IsSo v
 on_pointer fr (operand.Reg r) v IsSo is h = h.each v (v, pos 0, is, omega (arith, ints), omega (arith, ints), unmoved v)
-on_pointer fr (operand.Num n) v IsSo is h = h.each v (Null, n, refl, omega (arith, ints), omega (arith, ints), sym (value_is Null v is))
+on_pointer fr (operand.Num n) v IsSo is h = h.each v (Null, n, refl, omega (arith, ints), omega (arith, ints), sym (same_Some Null v is))
 
 pub on_number : (fr : Frame) (a : Opnd) (z : ℤ) (IsSo : ℤ → Type 0) → Is fr a z → EachNumber fr (place a) IsSo → IsSo z
 on_number fr (operand.Reg r) z IsSo is h = h.each z (z, is, omega (arith, ints), omega (arith, ints))
-on_number fr (operand.Num n) z IsSo is h = let same : n ≡ z = number_is n z is in h.each z (pos 0, refl, omega (arith, ints), omega (arith, ints))
+on_number fr (operand.Num n) z IsSo is h = let same : n ≡ z = one_number n z is in h.each z (pos 0, refl, omega (arith, ints), omega (arith, ints))
 
 on_constant : (fr : Frame) (n : ℤ) (IsSo : ℤ → Type 0) → EachNumber fr (number n) IsSo → IsSo n
 on_constant fr n IsSo h = h.each n (pos 0, refl, omega (arith, ints), omega (arith, ints))
-
-once : (z : ℤ) → pos 1 *ℤ z ≡ z
-once (pos n) = omega (arith, ints)
-once (negsuc n) = omega (arith, ints)
 
 module _ (fr : Frame) (m : List Block) (a : Opnd) (v : Value) (is : pointer_value fr a ≡ Some v) where
   -- so many bytes from the pointer on

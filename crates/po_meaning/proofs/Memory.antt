@@ -2,6 +2,8 @@
 use Rattle.std.specs.Prelude.{ℕ, zero, suc, ◌+◌, ◌≡◌, ◌≢◌, ◌≤◌, ◌<◌, ◌⊎◌, false, true, ℤ, List, [], ◌∷◌, ◌++◌, All, Bool, Some, length, take, slice_get, slice_set, slice_index_or}
 use Rattle.std.proofs.Common.{refl, sym, ap, ◌∙◌, subst, arith, inl, inr}
 use Rattle.std.proofs.lemmas.Option.{slice_get_within, slice_get-get_or}
+use Rattle.po_lists.proofs.Places.{all_at, set_here, set_elsewhere, item_at, kept_at}
+use Rattle.po_lists.proofs.Options.{one_value}
 use Rattle.po_arith.specs.declared.target.Target.{Target}
 use Rattle.po_ir.specs.declared.graph.Slot.{Slot}
 use Rattle.po_ir.specs.declared.project.Global.{Global}
@@ -16,7 +18,7 @@ use Rattle.po_memory.specs.declared.value.Value.TheVariants.{Number, Null, Point
 use Rattle.po_memory.specs.Since.{BlockSince, Since}
 use Rattle.po_meaning.specs.Belongs.{static_blocks, HasEntered, IsOfSlot, SlotsBelong, IsFull, IsOfGlobal, IsOfLiteral, StaticsBelong, IsThere, PointsThere, IsPartThere, FramePoints, Belongs}
 use Rattle.po_meaning.specs.Staying.{AreUnwritten}
-use Rattle.po_meaning.proofs.Places.{at_place, same_item, same_or_not, item_at, set_same, set_other}
+use Rattle.po_meaning.proofs.Places.{same_or_not}
 use Rattle.po_meaning.proofs.States.{state}
 
 pub all_places : {X : Type 0} (P : X → Type 0) (xs : List X) → ((i : ℕ) (x : X) → slice_get xs i ≡ Some x → P x) → All P xs
@@ -48,7 +50,7 @@ block_same Dies Static c = record { size = refl; align = refl; heap = refl; writ
 pub since_at : (killed written : Bool) (before after : List Block) (b : ℕ) (c : Block) → Since killed written before after → slice_get before b ≡ Some c → (d : Block) × (slice_get after b ≡ Some d) × BlockSince killed written c d
 since_at k w [] after b c since there = absurd (cc)
 since_at k w (x ∷ before) [] b c since there = absurd since
-since_at k w (x ∷ before) (y ∷ after) zero c since there = (y, refl, subst (λ (z : Block). BlockSince k w z y) (same_item (Some x) x c refl there) since.0)
+since_at k w (x ∷ before) (y ∷ after) zero c since there = (y, refl, subst (λ (z : Block). BlockSince k w z y) (one_value (Some x) x c refl there) since.0)
 since_at k w (x ∷ before) (y ∷ after) (suc b) c since there = since_at k w before after b c since.1 there
 
 since_kept : (Static : Type 0) (killed written : Bool) (c d : Block) → BlockSince killed written c d → (Static → c.writable ≡ false → d.bytes ≡ c.bytes) → BlockKept ⊥ Static c d
@@ -68,7 +70,7 @@ Lives b = ⊥
 pub kept_since : (statics : ℕ) (killed written : Bool) (before after : List Block) → Since killed written before after → AreUnwritten statics before after → Kept Lives statics before after
 kept_since statics k w before after since unwritten b c there =
     let found = since_at k w before after b c since there in
-    (found.0, found.1, since_kept (b < statics) k w c found.0 found.2 (λ static no. let other = unwritten b c static there no in ap (λ (d : Block). d.bytes) (same_item (slice_get after b) found.0 other.0 found.1 other.1) ∙ other.2))
+    (found.0, found.1, since_kept (b < statics) k w c found.0 found.2 (λ static no. let other = unwritten b c static there no in ap (λ (d : Block). d.bytes) (one_value (slice_get after b) found.0 other.0 found.1 other.1) ∙ other.2))
 
 -- ---- pointers
 
@@ -199,33 +201,24 @@ module _ (p : Project) (top : Frame) (rest : List Frame) (m w : List Block) (Die
 -- ---- one block that changes, and one more
 
 module _ (m : List Block) (b : ℕ) (c d : Block) (there : slice_get m b ≡ Some c) where
-  pub set_here : slice_get (slice_set m b d) b ≡ Some d
-  set_here = set_same m b d (slice_get_within m b c there)
+  pub changed_here : slice_get (slice_set m b d) b ≡ Some d
+  changed_here = set_here m b d (slice_get_within m b c there)
 
   pub set_kept : (Dies : ℕ → Type 0) (statics : ℕ) → BlockKept (Dies b) (b < statics) c d → Kept Dies statics m (slice_set m b d)
   set_kept Dies statics k j x here = by (same_or_not j b)
     where
       by : (j ≡ b) ⊎ (j ≢ b) → BlockIsKept Dies statics (slice_set m b d) j x
       by (inl same) =
-          let known : c ≡ x = same_item (slice_get m b) c x there (subst (λ (i : ℕ). slice_get m i ≡ Some x) same here) in
-          subst (λ (i : ℕ). BlockIsKept Dies statics (slice_set m b d) i x) (sym same) (d, set_here, subst (λ (y : Block). BlockKept (Dies b) (b < statics) y d) known k)
-      by (inr other) = (x, set_other m b j d other ∙ here, block_same (Dies j) (j < statics) x)
+          let known : c ≡ x = one_value (slice_get m b) c x there (subst (λ (i : ℕ). slice_get m i ≡ Some x) same here) in
+          subst (λ (i : ℕ). BlockIsKept Dies statics (slice_set m b d) i x) (sym same) (d, changed_here, subst (λ (y : Block). BlockKept (Dies b) (b < statics) y d) known k)
+      by (inr other) = (x, set_elsewhere m b j d other ∙ here, block_same (Dies j) (j < statics) x)
 
   pub set_all : (P : Block → Type 0) → All P m → P d → All P (slice_set m b d)
   set_all P all is = all_places P (slice_set m b d) (λ j x here. by j x here (same_or_not j b))
     where
       by : (j : ℕ) (x : Block) → slice_get (slice_set m b d) j ≡ Some x → (j ≡ b) ⊎ (j ≢ b) → P x
-      by j x here (inl same) = subst P (same_item (slice_get (slice_set m b d) b) d x set_here (subst (λ (i : ℕ). slice_get (slice_set m b d) i ≡ Some x) same here)) is
-      by j x here (inr other) = at_place P m j x all (sym (set_other m b j d other) ∙ here)
-
-pub get_before : {X : Type 0} (xs ys : List X) (i : ℕ) (x : X) → slice_get xs i ≡ Some x → slice_get (xs ++ ys) i ≡ Some x
-get_before [] ys i x here = absurd (cc)
-get_before (y ∷ xs) ys zero x here = here
-get_before (y ∷ xs) ys (suc i) x here = get_before xs ys i x here
-
-pub get_end : {X : Type 0} (xs : List X) (x : X) → slice_get (xs ++ x ∷ []) (length xs) ≡ Some x
-get_end [] x = refl
-get_end (y ∷ xs) x = get_end xs x
+      by j x here (inl same) = subst P (one_value (slice_get (slice_set m b d) b) d x changed_here (subst (λ (i : ℕ). slice_get (slice_set m b d) i ≡ Some x) same here)) is
+      by j x here (inr other) = all_at P m j x all (sym (set_elsewhere m b j d other) ∙ here)
 
 pub new_kept : (statics : ℕ) (m : List Block) (c : Block) → Kept Lives statics m (m ++ c ∷ [])
-new_kept statics m c b x here = (x, get_before m (c ∷ []) b x here, block_same ⊥ (b < statics) x)
+new_kept statics m c b x here = (x, kept_at m (c ∷ []) b x here, block_same ⊥ (b < statics) x)

@@ -5,6 +5,7 @@ use Rattle.std.proofs.Common.{sym, ap, ◌∙◌, subst, arith, length-drop}
 use Rattle.std.proofs.lemmas.Int.{ints}
 use Rattle.std.proofs.lemmas.List.{length-take-le}
 use Rattle.std.proofs.lemmas.List.Elements.{All-nil, All-cons, All-append, All-map, All-take, All-drop, All-replicate}
+use Rattle.po_lists.proofs.Places.{all_at, all_tail, all_head}
 use Rattle.po_arith.specs.declared.target.Target.{Target}
 use Rattle.po_ir.specs.declared.instr.Ty.{Ty}
 use Rattle.po_ir.specs.declared.instr.Ty.TheVariants.{Int, Ptr}
@@ -17,7 +18,6 @@ use Rattle.po_memory.specs.Accesses.{PointsInto, pasted, Reads}
 use Rattle.po_memory.specs.Blocks.{Spans, OnBlock, OnPointer}
 use Rattle.po_memory.specs.Bytes.{AreStored, IsCopied, AreCopied, AreRead, LiesIn, zeros}
 use Rattle.po_meaning.specs.Belongs.{PointsThere, IsPartThere}
-use Rattle.po_meaning.proofs.Places.{All-head, All-tail, at_place}
 
 module _ (target : Target) (m : List Block) where
   abbrev Part : Byte → Type 0
@@ -48,7 +48,7 @@ module _ (target : Target) (m : List Block) where
   copied_there [] (o ∷ os) rs are all = absurd are
   copied_there (s ∷ ss) [] rs are all = absurd are
   copied_there (s ∷ ss) (o ∷ os) [] are all = absurd are
-  copied_there (s ∷ ss) (o ∷ os) (r ∷ rs) are all = All-cons Part r rs (copied_part s o r are.0 (All-head Part s ss all)) (copied_there ss os rs are.1 (All-tail Part s ss all))
+  copied_there (s ∷ ss) (o ∷ os) (r ∷ rs) are all = All-cons Part r rs (copied_part s o r are.0 (all_head Part s ss all)) (copied_there ss os rs are.1 (all_tail Part s ss all))
 
   pub pasted_there : (old : List Byte) (start : ℕ) (bytes : List Byte) → All (IsPartThere target m) old → All (IsPartThere target m) bytes → All (IsPartThere target m) (pasted old start bytes)
   pasted_there old start bytes all new =
@@ -58,7 +58,7 @@ module _ (target : Target) (m : List Block) where
   -- what is read of blocks whose pointers are there
   pub range_there : (at : Value) (size : ℕ) (bytes : List Byte) → Reads m at size bytes → All (λ (c : Block). All (IsPartThere target m) c.bytes) m → All (IsPartThere target m) bytes
   range_there at size bytes reads all =
-      let whole : All Part reads.whole.bytes = at_place (λ (c : Block). All Part c.bytes) m reads.block reads.whole all reads.points.there in
+      let whole : All Part reads.whole.bytes = all_at (λ (c : Block). All Part c.bytes) m reads.block reads.whole all reads.points.there in
       subst (All Part) (sym reads.same) (All-take Part (reads.start + size - reads.start) (drop reads.start reads.whole.bytes) (All-drop Part reads.start reads.whole.bytes whole))
 
   pointer_read : (v : Value) (n : ℕ) (bytes : List Byte) → length bytes ≡ suc n → AreRead Ptr bytes v → All Part bytes → PointsThere target m v
@@ -67,7 +67,7 @@ module _ (target : Target) (m : List Block) where
   pointer_read Wild n bytes size are all = tt
   pointer_read (Pointer block offset) n bytes size are all =
       let same : bytes ≡ map (λ k. byte.Part block offset k) (range_with_len 0 (suc n)) = are ∙ ap (λ (k : ℕ). map (λ j. byte.Part block offset j) (range_with_len 0 k)) size in
-      All-head Part (byte.Part block offset 0) (map (λ k. byte.Part block offset k) (range_with_len 1 n)) (subst (All Part) same all)
+      all_head Part (byte.Part block offset 0) (map (λ k. byte.Part block offset k) (range_with_len 1 n)) (subst (All Part) same all)
 
   -- what a load of at least one byte gives
   pub read_there : (t : Ty) (v : Value) (n : ℕ) (bytes : List Byte) → length bytes ≡ suc n → AreRead t bytes v → All (IsPartThere target m) bytes → PointsThere target m v

@@ -1,6 +1,9 @@
 -- A return leads from a state that belongs to a project to one that belongs to it.
 use Rattle.std.specs.Prelude.{ℕ, zero, suc, ◌+◌, ◌≡◌, List, [], ◌∷◌, Option, Some, None, slice_get}
 use Rattle.std.proofs.Common.{refl, sym, ap, ◌∙◌, subst, arith}
+use Rattle.po_lists.proofs.Places.{all_at, all_tail}
+use Rattle.po_lists.proofs.Options.{one_value}
+use Rattle.po_lists.proofs.Members.{contains_head}
 use Rattle.po_base.specs.declared.numbers.RegNo.{RegNo}
 use Rattle.po_base.specs.declared.operand.Opnd.{Opnd}
 use Rattle.po_ir.specs.declared.graph.Node.{Node}
@@ -24,7 +27,6 @@ use Rattle.po_meaning.specs.Operands.{block_held, slot_block, value_at, receive}
 use Rattle.po_meaning.specs.States.{State, StandsAt}
 use Rattle.po_meaning.specs.Steps.{Returned, Returns}
 use Rattle.po_meaning.specs.Belongs.{FrameBelongs, Calls, HasEntered, PointsThere, FramePoints, Belongs}
-use Rattle.po_meaning.proofs.Places.{at_place, same_item, is_first, All-tail}
 use Rattle.po_meaning.proofs.Frames.{told_at}
 use Rattle.po_meaning.proofs.Plain.{typed_as, put_stays, goes_stays, arrives}
 use Rattle.po_meaning.proofs.ResultTypes.{one_type, not_void}
@@ -35,7 +37,7 @@ use Rattle.po_meaning.proofs.States.{state}
 -- the frame that waits runs at its call
 popped : (p : Project) (top caller : Frame) (below : List Frame) (m : List Block) → Belongs p (state top (caller ∷ below) m) → Belongs p (state caller below m)
 popped p top caller below m before = record {
-  each_frame = All-tail (FrameBelongs p) top (caller ∷ below) before.each_frame;
+  each_frame = all_tail (FrameBelongs p) top (caller ∷ below) before.each_frame;
   waiting = before.waiting.1;
   slots = record {
     blocks = λ frame g k t b x here of is has. before.slots.blocks frame g (suc k) t b x here of is has;
@@ -43,7 +45,7 @@ popped p top caller below m before = record {
   };
   sizes = before.sizes;
   statics = before.statics;
-  pointers = record { frames_point = All-tail (FramePoints p.target m) top (caller ∷ below) before.pointers.frames_point; blocks_point = before.pointers.blocks_point };
+  pointers = record { frames_point = all_tail (FramePoints p.target m) top (caller ∷ below) before.pointers.frames_point; blocks_point = before.pointers.blocks_point };
 }
   where
     pred_same : (k l : ℕ) → suc k ≡ suc l → k ≡ l
@@ -51,7 +53,7 @@ popped p top caller below m before = record {
 
 -- the instruction at a node is one
 one_instruction : (g : Graph) (n : ℕ) (i j : Instr) → NodeAt g n i → NodeAt g n j → i ≡ j
-one_instruction g n i j one two = sym one.2 ∙ (ap (λ (x : Node). x.instr) (same_item (slice_get g.nodes n) one.0 two.0 one.1 two.1) ∙ two.2)
+one_instruction g n i j one two = sym one.2 ∙ (ap (λ (x : Node). x.instr) (one_value (slice_get g.nodes n) one.0 two.0 one.1 two.1) ∙ two.2)
 
 same_call : (to to' : Option RegNo) (callee callee' : Callee) (args args' : List Opnd) (strings strings' : List ℕ) → Call to callee args strings ≡ Call to' callee' args' strings' → callee ≡ callee'
 same_call to to' callee callee' args args' strings strings' same = cc
@@ -88,7 +90,7 @@ module _ (library : List Signature) (p : Project) (f : Function) (s u : State) (
   is_called =
       let waits : Calls p caller s.top.function = before.waiting.0 in
       let other = waits.4 in
-      let function : waits.0 ≡ returns.calling = same_item (slice_get p.functions caller.function.0) waits.0 returns.calling other.of returns.calls.of in
+      let function : waits.0 ≡ returns.calling = one_value (slice_get p.functions caller.function.0) waits.0 returns.calling other.of returns.calls.of in
       let node : NodeAt returns.calling.graph caller.node.0 (Call waits.1 (Fun s.top.function) waits.2 waits.3) = subst (λ (g : Function). NodeAt g.graph caller.node.0 (Call waits.1 (Fun s.top.function) waits.2 waits.3)) function other.node in
       same_call returns.to waits.1 returns.callee (Fun s.top.function) returns.args waits.2 returns.strings waits.3 (one_instruction returns.calling.graph caller.node.0 call (Call waits.1 (Fun s.top.function) waits.2 waits.3) returns.calls.node node)
 
@@ -97,13 +99,13 @@ module _ (library : List Signature) (p : Project) (f : Function) (s u : State) (
 
   call_fits : CallFits returns.calling.graph returns.to returns.args f
   call_fits =
-      let fits : FunctionFits library p returns.calling = at_place (FunctionFits library p) p.functions caller.function.0 returns.calling whole.functions returns.calls.of in
+      let fits : FunctionFits library p returns.calling = all_at (FunctionFits library p) p.functions caller.function.0 returns.calling whole.functions returns.calls.of in
       let node : CallOf (Fun s.top.function) = subst CallOf is_called returns.calls.node in
       told_at (slice_get p.functions s.top.function.0) (λ (c : Function). (IsUnread c → ⊥) → CallFits returns.calling.graph returns.to returns.args c) f stands.of
       ((fits.instructions caller.node.0 (Call returns.to (Fun s.top.function) returns.args returns.strings) node).callees_fit) (is_read f s.top.node.0 value stands.node)
 
   gives : Gives f value
-  gives = ((at_place (FunctionFits library p) p.functions s.top.function.0 f whole.functions stands.of).instructions s.top.node.0 (Return value) stands.node).return_fits
+  gives = ((all_at (FunctionFits library p) p.functions s.top.function.0 f whole.functions stands.of).instructions s.top.node.0 (Return value) stands.node).return_fits
 
   -- what a register that gets the result gets
   abbrev IsReceived : Ty → Value → Type 0
@@ -112,7 +114,7 @@ module _ (library : List Signature) (p : Project) (f : Function) (s u : State) (
   received_value : (back : Option Opnd) (t : Ty) (v : Value) → Gives f back → IsResultType f.result.text (Some t) → Returned f s.top back (Some v) → IsReceived t v
   received_value None t v given is clash = absurd (cc)
   received_value (Some a) t v (k, spells, lies) is (j, w, spells', has, same) =
-      let known : w ≡ v = same_item (Some w) w v refl (sym same) in
+      let known : w ≡ v = one_value (Some w) w v refl (sym same) in
       let lie : Lies f.graph t a = subst (λ (x : Ty). Lies f.graph x a) (one_type f.result.text k t spells is) lies in
       let has_now : value_at s.top t a ≡ Some v = subst (λ (x : Ty). value_at s.top x a ≡ Some v) (one_type f.result.text j t spells' is) (subst (λ (y : Value). value_at s.top j a ≡ Some y) known has) in
       (value_lies p f s stands.of all t a v lie has_now, value_there p f s stands.of all t a v has_now)
@@ -130,14 +132,14 @@ module _ (library : List Signature) (p : Project) (f : Function) (s u : State) (
   received_in (Some to) (Some v) at typed is =
       let register = typed_as returns.calling.graph to (λ t. IsResultType f.result.text (Some t)) typed in
       let got = received_value value register.register.ty v gives register.typed is in
-      put_stays p returns.calling (state caller below s.memory) at.of resumed (Call (Some to) returns.callee returns.args returns.strings) to v register.register (record { of = at.of; node = at.node }) (is_first _ []) refl refl register.there got.0 got.1
+      put_stays p returns.calling (state caller below s.memory) at.of resumed (Call (Some to) returns.callee returns.args returns.strings) to v register.register (record { of = at.of; node = at.node }) (contains_head _ []) refl refl register.there got.0 got.1
   received_in (Some to) None at typed is =
       let register = typed_as returns.calling.graph to (λ t. IsResultType f.result.text (Some t)) typed in
       absurd (no_result value register.register.ty gives register.typed is)
   received_in None (Some v) at typed is =
-      goes_stays p returns.calling (state caller below s.memory) at.of resumed (Call None returns.callee returns.args returns.strings) (record { 0 = caller.node.0 + 1 }) (record { of = at.of; node = at.node }) (is_first _ []) refl refl
+      goes_stays p returns.calling (state caller below s.memory) at.of resumed (Call None returns.callee returns.args returns.strings) (record { 0 = caller.node.0 + 1 }) (record { of = at.of; node = at.node }) (contains_head _ []) refl refl
   received_in None None at typed is =
-      goes_stays p returns.calling (state caller below s.memory) at.of resumed (Call None returns.callee returns.args returns.strings) (record { 0 = caller.node.0 + 1 }) (record { of = at.of; node = at.node }) (is_first _ []) refl refl
+      goes_stays p returns.calling (state caller below s.memory) at.of resumed (Call None returns.callee returns.args returns.strings) (record { 0 = caller.node.0 + 1 }) (record { of = at.of; node = at.node }) (contains_head _ []) refl refl
 
   received : Belongs p (state (receive returns.to returns.result caller) below s.memory)
   received = received_in returns.to returns.result returns.calls call_fits.result returns.is_result
@@ -153,7 +155,7 @@ module _ (library : List Signature) (p : Project) (f : Function) (s u : State) (
   back = receive returns.to returns.result caller
 
   entered_below : (k t b : ℕ) (frame : Frame) → slice_get (back ∷ below) k ≡ Some frame → slot_block frame t ≡ Some b → HasEntered (state s.top (caller ∷ below) s.memory) (suc k) t b
-  entered_below zero t b frame here has = (caller, refl, sym (slots_same returns.to returns.result t) ∙ subst (λ (fr : Frame). slot_block fr t ≡ Some b) (sym (same_item (Some back) back frame refl here)) has)
+  entered_below zero t b frame here has = (caller, refl, sym (slots_same returns.to returns.result t) ∙ subst (λ (fr : Frame). slot_block fr t ≡ Some b) (sym (one_value (Some back) back frame refl here)) has)
   entered_below (suc k) t b frame here has = (frame, here, has)
 
   slot_held : (i b : ℕ) → slice_get s.top.slots i ≡ Some (Some b) → slot_block s.top i ≡ Some b

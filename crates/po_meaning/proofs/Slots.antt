@@ -4,6 +4,9 @@ use Rattle.std.proofs.Common.{refl, sym, ap, ◌∙◌, subst, arith, inl, inr}
 use Rattle.std.proofs.lemmas.List.{length-set, length-replicate}
 use Rattle.std.proofs.lemmas.List.Elements.{All-nil, All-cons, All-append, All-replicate}
 use Rattle.std.proofs.lemmas.Option.{slice_get_within}
+use Rattle.po_lists.proofs.Places.{all_at, set_here, set_elsewhere, all_tail, all_head, item_at, behind_at}
+use Rattle.po_lists.proofs.Options.{one_value}
+use Rattle.po_lists.proofs.Members.{contains_head}
 use Rattle.po_base.specs.declared.numbers.FunNo.{FunNo}
 use Rattle.po_base.specs.declared.numbers.SlotNo.{SlotNo}
 use Rattle.po_ir.specs.declared.graph.Slot.{Slot}
@@ -25,9 +28,9 @@ use Rattle.po_meaning.specs.Local.{Local}
 use Rattle.po_meaning.specs.Steps.{KillsAll}
 use Rattle.po_meaning.specs.Needs.{Needs, NeedsSlot}
 use Rattle.po_meaning.specs.Belongs.{HasSome, FrameBelongs, Wait, static_blocks, HasEntered, IsOfSlot, SlotsBelong, IsPartThere, FramePoints, Belongs}
-use Rattle.po_meaning.proofs.Places.{at_place, same_item, same_or_not, set_same, set_other, item_at, held_within, is_first, All-head, All-tail}
+use Rattle.po_meaning.proofs.Places.{same_or_not, held_within}
 use Rattle.po_meaning.proofs.Frames.{Fits, belongs_of, reach_more, register_before, slot_before, some_not_none}
-use Rattle.po_meaning.proofs.Memory.{Lives, Kept, BlockKept, longer, bytes_still, belongs_after, set_kept, set_all, get_end, new_kept, statics_below}
+use Rattle.po_meaning.proofs.Memory.{Lives, Kept, BlockKept, longer, bytes_still, belongs_after, set_kept, set_all, new_kept, statics_below}
 use Rattle.po_meaning.proofs.Plain.{fits_before, points_before, arrives}
 use Rattle.po_meaning.proofs.States.{state, some_same}
 
@@ -47,10 +50,10 @@ needed_entered library p f fits s (suc k) n back path (i, m, at, other, to, need
 
 module _ (fr : Frame) (s : SlotNo) (b : Option ℕ) where
   pub block_here : s.0 < length fr.slots → slot_block (with_block s b fr) s.0 ≡ b
-  block_here within = ap block_held (set_same fr.slots s.0 b within)
+  block_here within = ap block_held (set_here fr.slots s.0 b within)
 
   pub block_others : (t : ℕ) → t ≢ s.0 → slot_block (with_block s b fr) t ≡ slot_block fr t
-  block_others t other = ap block_held (set_other fr.slots s.0 t b other)
+  block_others t other = ap block_held (set_elsewhere fr.slots s.0 t b other)
 
   some_block : (t : ℕ) → s.0 < length fr.slots → (t ≡ s.0) ⊎ (t ≢ s.0) → (t ≡ s.0 → HasSome b) → (t ≢ s.0 → HasSome (slot_block fr t)) → HasSome (slot_block (with_block s b fr) t)
   some_block t within (inl same) here there = let some = here same in (some.0, subst (λ (j : ℕ). slot_block (with_block s b fr) j ≡ Some some.0) (sym same) (block_here within ∙ some.1))
@@ -84,19 +87,19 @@ module _ (p : Project) (s : State) (before : Belongs p s) where
       (slot.0, block.0, block.1, block.2)
 
   pub entered_block : (k t b : ℕ) → HasEntered s k t b → (slot : Slot) × (c : Block) × (slice_get s.memory b ≡ Some c) × IsOfSlot p slot b c
-  entered_block k t b (frame, here, has) = entered_in frame k t b (at_place (FrameBelongs p) (frames s) k frame before.each_frame here) here has
+  entered_block k t b (frame, here, has) = entered_in frame k t b (all_at (FrameBelongs p) (frames s) k frame before.each_frame here) here has
 
 -- another frame of the same function runs
 pub reframed : (p : Project) (top now : Frame) (rest : List Frame) (m : List Block) → now.function ≡ top.function → FrameBelongs p now → FramePoints p.target m now → SlotsBelong p (state now rest m) →
     Belongs p (state top rest m) → Belongs p (state now rest m)
 reframed p top now rest m function frame points slots before = record {
-  each_frame = All-cons (FrameBelongs p) now rest frame (All-tail (FrameBelongs p) top rest before.each_frame);
+  each_frame = All-cons (FrameBelongs p) now rest frame (all_tail (FrameBelongs p) top rest before.each_frame);
   waiting = subst (λ (n : FunNo). Wait p n rest) (sym function) before.waiting;
   slots = slots;
   sizes = before.sizes;
   statics = before.statics;
   pointers = record {
-    frames_point = All-cons (FramePoints p.target m) now rest points (All-tail (FramePoints p.target m) top rest before.pointers.frames_point);
+    frames_point = All-cons (FramePoints p.target m) now rest points (all_tail (FramePoints p.target m) top rest before.pointers.frames_point);
     blocks_point = before.pointers.blocks_point;
   };
 }
@@ -136,12 +139,12 @@ module _ (p : Project) (top : Frame) (rest : List Frame) where
     parts =
         set_all m b kills.whole (killed kills.whole) kills.there (Points after)
         (λ i c within. still (slice_index_or m i c) (before.pointers.blocks_point i c within))
-        (still kills.whole (at_place (Points m) m b kills.whole before.pointers.blocks_point kills.there))
+        (still kills.whole (all_at (Points m) m b kills.whole before.pointers.blocks_point kills.there))
 
     after_belongs : Belongs p (state top rest after)
     after_belongs = belongs_after p top rest m after Dies kept before (λ j same. subst (λ (n : ℕ). static_blocks p ≤ n) (sym same) own)
         (λ k slot j entered same. not_entered k slot entered.0 entered.1 (subst (λ (n : ℕ). slot_block entered.0 slot ≡ Some n) same entered.2))
-        (set_all m b kills.whole (killed kills.whole) kills.there Small before.sizes (at_place Small m b kills.whole before.sizes kills.there)) parts
+        (set_all m b kills.whole (killed kills.whole) kills.there Small before.sizes (all_at Small m b kills.whole before.sizes kills.there)) parts
 
     pub kill_stays : Belongs p (state top rest w)
     kill_stays = subst (λ (l : List Block). Belongs p (state top rest l)) (sym kills.becomes) after_belongs
@@ -160,13 +163,13 @@ IsNewest slot newest k t b = (k ≡ 0) × (t ≡ slot) × (b ≡ newest)
 
 module _ (library : List Signature) (p : Project) (f : Function) (s u : State) (whole : IsWhole library p) (before : Belongs p s) (below : u.rest ≡ s.rest) where
   fits_in : IsOf p s.top f → FunctionFits library p f
-  fits_in of = at_place (FunctionFits library p) p.functions s.top.function.0 f whole.functions of
+  fits_in of = all_at (FunctionFits library p) p.functions s.top.function.0 f whole.functions of
 
   -- a slot that is left isn't used before it is entered again
   left_unneeded : (slot t : SlotNo) → StandsAt p s.top f (Leave slot) → t.0 ≡ slot.0 → NeedsSlot f.graph t (s.top.node.0 + 1) → ⊥
   left_unneeded slot t stands same (k, needs) =
       let way = (fits_before p f s stands.of before).place.node in
-      neither (needed_entered library p f (fits_in stands.of) t k (s.top.node.0 + 1) (Leave slot ∷ way.0) (step way.0 s.top.node.0 (s.top.node.0 + 1) (Leave slot) way.1 stands.node (is_first _ [])) needs)
+      neither (needed_entered library p f (fits_in stands.of) t k (s.top.node.0 + 1) (Leave slot ∷ way.0) (step way.0 s.top.node.0 (s.top.node.0 + 1) (Leave slot) way.1 stands.node (contains_head _ [])) needs)
     where
       neither : IsEntered t (Leave slot ∷ ((fits_before p f s stands.of before).place.node).0) → ⊥
       neither (inl clash) = absurd (cc)
@@ -198,7 +201,7 @@ module _ (library : List Signature) (p : Project) (f : Function) (s u : State) (
       blocks_kept frame g (suc k) t c known here of there has = before.slots.blocks frame g (suc k) t c known here of there has
 
       fits_now : Fits f (with_block slot None s.top)
-      fits_now = fits_block s.top slot None f (Leave slot) stands.node (is_first _ []) refl (λ t other clash. absurd (cc)) within (λ t same needs. absurd (left_unneeded slot t stands same needs)) (fits_before p f s stands.of before)
+      fits_now = fits_block s.top slot None f (Leave slot) stands.node (contains_head _ []) refl (λ t other clash. absurd (cc)) within (λ t same needs. absurd (left_unneeded slot t stands same needs)) (fits_before p f s stands.of before)
 
       reframed_now : Belongs p (state (with_block slot None s.top) s.rest s.memory)
       reframed_now = reframed p s.top (with_block slot None s.top) s.rest s.memory refl (belongs_of p f (with_block slot None s.top) stands.of fits_now)
@@ -218,14 +221,14 @@ module _ (library : List Signature) (p : Project) (f : Function) (s u : State) (
   pub enter_stays : (slot : SlotNo) → StandsAt p s.top f (Enter (variable.Slot slot)) → Local p f.graph (Enter (variable.Slot slot)) s.top s.memory u.top u.memory → Belongs p u
   enter_stays slot stands (known, c, there, new, top, memory) = arrives p u (with_block slot (Some (length s.memory)) s.top) s.rest (s.memory ++ c ∷ []) top below memory
       (reframed p s.top (with_block slot (Some (length s.memory)) s.top) s.rest (s.memory ++ c ∷ []) refl (belongs_of p f (with_block slot (Some (length s.memory)) s.top) stands.of fits_now)
-      (record { registers = (All-head (FramePoints p.target (s.memory ++ c ∷ [])) s.top s.rest with_new.pointers.frames_point).registers; arguments = (All-head (FramePoints p.target (s.memory ++ c ∷ [])) s.top s.rest with_new.pointers.frames_point).arguments })
+      (record { registers = (all_head (FramePoints p.target (s.memory ++ c ∷ [])) s.top s.rest with_new.pointers.frames_point).registers; arguments = (all_head (FramePoints p.target (s.memory ++ c ∷ [])) s.top s.rest with_new.pointers.frames_point).arguments })
       (record { blocks = blocks_now; apart = apart_now }) with_new)
     where
       within : slot.0 < length s.top.slots
       within = let inside = slice_get_within f.graph.slots slot.0 known there in let same = (fits_before p f s stands.of before).place.slots in omega (arith, inside, same)
 
       fits_now : Fits f (with_block slot (Some (length s.memory)) s.top)
-      fits_now = fits_block s.top slot (Some (length s.memory)) f (Enter (variable.Slot slot)) stands.node (is_first _ []) refl (λ t other same. other (ap (λ (x : SlotNo). x.0) (same_item (Some slot) t slot same refl))) within
+      fits_now = fits_block s.top slot (Some (length s.memory)) f (Enter (variable.Slot slot)) stands.node (contains_head _ []) refl (λ t other same. other (ap (λ (x : SlotNo). x.0) (one_value (Some slot) t slot same refl))) within
           (λ t same needs. (length s.memory, refl)) (fits_before p f s stands.of before)
 
       kept : Kept Lives (static_blocks p) s.memory (s.memory ++ c ∷ [])
@@ -239,7 +242,7 @@ module _ (library : List Signature) (p : Project) (f : Function) (s u : State) (
 
       sizes : All (λ (d : Block). length d.bytes ≤ greatest_size) (s.memory ++ c ∷ [])
       sizes = All-append (λ (d : Block). length d.bytes ≤ greatest_size) s.memory (c ∷ []) before.sizes
-          (All-cons (λ (d : Block). length d.bytes ≤ greatest_size) c [] (subst (λ (n : ℕ). n ≤ greatest_size) (sym size_now) (at_place (λ (x : Slot). (x.size ≤ greatest_size) × (1 ≤ x.align)) f.graph.slots slot.0 known (fits_in stands.of).slots there).0) (All-nil (λ (d : Block). length d.bytes ≤ greatest_size)))
+          (All-cons (λ (d : Block). length d.bytes ≤ greatest_size) c [] (subst (λ (n : ℕ). n ≤ greatest_size) (sym size_now) (all_at (λ (x : Slot). (x.size ≤ greatest_size) × (1 ≤ x.align)) f.graph.slots slot.0 known (fits_in stands.of).slots there).0) (All-nil (λ (d : Block). length d.bytes ≤ greatest_size)))
 
       parts : All (λ (d : Block). All (IsPartThere p.target (s.memory ++ c ∷ [])) d.bytes) (s.memory ++ c ∷ [])
       parts = All-append (λ (d : Block). All (IsPartThere p.target (s.memory ++ c ∷ [])) d.bytes) s.memory (c ∷ []) (λ i d inside. bytes_still p.target s.memory (s.memory ++ c ∷ []) (slice_index_or s.memory i d).bytes more (before.pointers.blocks_point i d inside))
@@ -250,7 +253,7 @@ module _ (library : List Signature) (p : Project) (f : Function) (s u : State) (
 
       -- what is entered now is the new slot, or was entered before
       newest_in : (t b : ℕ) → slot_block (with_block slot (Some (length s.memory)) s.top) t ≡ Some b → (t ≡ slot.0) ⊎ (t ≢ slot.0) → IsNewest slot.0 (length s.memory) 0 t b ⊎ (slot_block s.top t ≡ Some b)
-      newest_in t b has (inl same) = inl (refl, same, sym (same_item (slot_block (with_block slot (Some (length s.memory)) s.top) slot.0) (length s.memory) b (block_here s.top slot (Some (length s.memory)) within) (subst (λ (j : ℕ). slot_block (with_block slot (Some (length s.memory)) s.top) j ≡ Some b) same has)))
+      newest_in t b has (inl same) = inl (refl, same, sym (one_value (slot_block (with_block slot (Some (length s.memory)) s.top) slot.0) (length s.memory) b (block_here s.top slot (Some (length s.memory)) within) (subst (λ (j : ℕ). slot_block (with_block slot (Some (length s.memory)) s.top) j ≡ Some b) same has)))
       newest_in t b has (inr other) = inr (sym (block_others s.top slot (Some (length s.memory)) t other) ∙ has)
 
       newest : (k t b : ℕ) → HasEntered (state (with_block slot (Some (length s.memory)) s.top) s.rest (s.memory ++ c ∷ [])) k t b → IsNewest slot.0 (length s.memory) k t b ⊎ HasEntered s k t b
@@ -277,7 +280,7 @@ module _ (library : List Signature) (p : Project) (f : Function) (s u : State) (
       new_block : (x : Slot) (b : ℕ) → known ≡ x → b ≡ length s.memory → (d : Block) × (slice_get (s.memory ++ c ∷ []) b ≡ Some d) × IsOfSlot p x b d
       new_block x b is same = (
         c,
-        subst (λ (j : ℕ). slice_get (s.memory ++ c ∷ []) j ≡ Some c) (sym same) (get_end s.memory c),
+        subst (λ (j : ℕ). slice_get (s.memory ++ c ∷ []) j ≡ Some c) (sym same) (behind_at s.memory [] c),
         subst (λ (y : Slot). IsOfSlot p y b c) is (record {
           size = size_now;
           align = new.align;
@@ -297,7 +300,7 @@ module _ (library : List Signature) (p : Project) (f : Function) (s u : State) (
         where
           by : IsOf p s.top g → IsNewest slot.0 (length s.memory) 0 t b ⊎ (slot_block s.top t ≡ Some b) → (d : Block) × (slice_get (s.memory ++ c ∷ []) b ≡ Some d) × IsOfSlot p x b d
           by of_now (inl (first, same, block)) =
-              let function : f ≡ g = same_item (slice_get p.functions s.top.function.0) f g stands.of of_now in
-              new_block x b (same_item (slice_get g.graph.slots slot.0) known x (subst (λ (h : Function). slice_get h.graph.slots slot.0 ≡ Some known) function there) (subst (λ (j : ℕ). slice_get g.graph.slots j ≡ Some x) same is)) block
+              let function : f ≡ g = one_value (slice_get p.functions s.top.function.0) f g stands.of of_now in
+              new_block x b (one_value (slice_get g.graph.slots slot.0) known x (subst (λ (h : Function). slice_get h.graph.slots slot.0 ≡ Some known) function there) (subst (λ (j : ℕ). slice_get g.graph.slots j ≡ Some x) same is)) block
           by of_now (inr is_old) = with_new.slots.blocks s.top g 0 t b x refl of_now is is_old
       blocks_now frame g (suc k) t b x here of is has = with_new.slots.blocks frame g (suc k) t b x here of is has

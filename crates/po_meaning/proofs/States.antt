@@ -2,6 +2,7 @@
 use Rattle.std.specs.Prelude.{ℕ, zero, suc, ◌≡◌, List, ◌∷◌, Option, Some, slice_get}
 use Rattle.std.proofs.Common.{refl, sym, ap, ◌∙◌, subst}
 use Rattle.std.proofs.lemmas.List.Elements.{All-cons}
+use Rattle.po_lists.proofs.Places.{all_tail}
 use Rattle.po_base.specs.declared.numbers.FunNo.{FunNo}
 use Rattle.po_ir.specs.declared.graph.Slot.{Slot}
 use Rattle.po_ir.specs.declared.project.Function.{Function}
@@ -11,7 +12,6 @@ use Rattle.po_memory.specs.declared.frame.Frame.{Frame}
 use Rattle.po_meaning.specs.Operands.{block_held, slot_block}
 use Rattle.po_meaning.specs.States.{State, IsOf}
 use Rattle.po_meaning.specs.Belongs.{FrameBelongs, Wait, HasEntered, IsOfSlot, SlotsBelong, FramePoints, Belongs}
-use Rattle.po_meaning.proofs.Places.{All-tail}
 
 abbrev pub state : Frame → List Frame → List Block → State
 state top rest m = record { top = top; rest = rest; memory = m }
@@ -45,13 +45,13 @@ module _ (p : Project) (top now : Frame) (rest : List Frame) (m : List Block) (f
 
   pub belongs_kept : FrameBelongs p now → FramePoints p.target m now → Belongs p (state top rest m) → Belongs p (state now rest m)
   belongs_kept frame points before = record {
-    each_frame = All-cons (FrameBelongs p) now rest frame (All-tail (FrameBelongs p) top rest before.each_frame);
+    each_frame = All-cons (FrameBelongs p) now rest frame (all_tail (FrameBelongs p) top rest before.each_frame);
     waiting = subst (λ (n : FunNo). Wait p n rest) (sym function) before.waiting;
     slots = slots_kept before.slots;
     sizes = before.sizes;
     statics = before.statics;
     pointers = record {
-      frames_point = All-cons (FramePoints p.target m) now rest points (All-tail (FramePoints p.target m) top rest before.pointers.frames_point);
+      frames_point = All-cons (FramePoints p.target m) now rest points (all_tail (FramePoints p.target m) top rest before.pointers.frames_point);
       blocks_point = before.pointers.blocks_point;
     };
   }

@@ -1,9 +1,12 @@
 -- What a load and a store ask is that all their predicates hold.
 use Rattle.std.proofs.Common.{◌≡◌, ℕ, List, [], ◌∷◌, ◌++◌, arith, sym, ap, refl, subst, ◌∙◌}
-use Rattle.std.specs.Prelude.{ℤ, pos, negsuc, ◌+ℤ◌, ◌*ℤ◌, All, Bool, true, false, cond, ltb, Some}
+use Rattle.std.specs.Prelude.{ℤ, pos, ◌+ℤ◌, ◌*ℤ◌, All, Bool, true, false, cond, ltb}
 use Rattle.std.proofs.lemmas.Int.{ints}
 use Rattle.std.proofs.lemmas.Bool.{ltb-true, lt-ltb}
 use Rattle.std.proofs.lemmas.List.Elements.{All-nil, All-cons, All-head, All-tail}
+use Rattle.std.proofs.lemmas.Option.{same_Some}
+use Rattle.po_lists.proofs.Integers.{once}
+use Rattle.po_memory.proofs.General.{one_number}
 use Rattle.po_pred.specs.declared.pred.Place.{Place}
 use Rattle.po_pred.specs.declared.pred.Pred.{Pred}
 use Rattle.po_pred.specs.declared.pred.Pred.TheVariants.{NotNull, Live, Span, Filled, Writable, Aligned}
@@ -16,7 +19,6 @@ use Rattle.po_memory.specs.Values.{moved, IsPointer, EachPointer, EachNumber}
 use Rattle.po_memory.specs.Blocks.{IsLive, Spans, IsAligned, IsFilled, IsWritable, OnPointer, IsNotNull}
 use Rattle.po_memory.specs.Holding.{Holds}
 use Rattle.po_memory.specs.Accesses.{LoadAllowed, StoreAllowed, LoadAsks, StoreAsks, Means, number_place, alignment_asked}
-use Rattle.po_memory.proofs.General.{some_same}
 
 unmoved : (v : Value) (n : ℤ) → n ≡ pos 0 → moved v n ≡ v
 unmoved (Number v) n none = let same : v +ℤ n ≡ v = omega (arith, ints) in ap Number same
@@ -41,15 +43,12 @@ module _ (f : Frame) (p : Place) (at : Value) (means : Means f p at) where
         let above = c.3 in
         let below = c.4 in
         let none : c.1 ≡ pos 0 = omega (arith, ints) in
-        let base : c.0 ≡ at = some_same c.0 at (sym c.2 ∙ means.base) in
+        let base : c.0 ≡ at = same_Some c.0 at (sym c.2 ∙ means.base) in
         subst IsSo (sym (c.5 ∙ (unmoved c.0 c.1 none ∙ base))) h;
   }
 
   place_pointer : (IsSo : Value → Type 0) → EachPointer f p IsSo → IsPointer at
-  place_pointer IsSo h = subst IsPointer (some_same h.has.0 at (sym h.has.1 ∙ means.base)) h.has.2
-
-number_same : (u w : ℤ) → Some (Number u) ≡ Some (Number w) → u ≡ w
-number_same u w e = cc
+  place_pointer IsSo h = subst IsPointer (same_Some h.has.0 at (sym h.has.1 ∙ means.base)) h.has.2
 
 of_number : (f : Frame) (n : ℕ) (IsSo : ℤ → Type 0) → EachNumber f (number_place n) IsSo → IsSo (pos n)
 of_number f n IsSo h = h.each (pos n) (pos 0, refl, omega (arith, ints), omega (arith, ints))
@@ -58,16 +57,12 @@ to_number : (f : Frame) (n : ℕ) (IsSo : ℤ → Type 0) → IsSo (pos n) → E
 to_number f n IsSo h = record {
   has = (pos 0, refl);
   each = λ z c.
-      let none : pos 0 ≡ c.0 = number_same (pos 0) c.0 c.1 in
+      let none : pos 0 ≡ c.0 = one_number (pos 0) c.0 c.1 in
       let low = c.2 in
       let high = c.3 in
       let same : pos n ≡ z = omega (arith, ints) in
       subst IsSo same h;
 }
-
-once : (z : ℤ) → pos 1 *ℤ z ≡ z
-once (pos n) = omega (arith, ints)
-once (negsuc n) = omega (arith, ints)
 
 module _ (IsSo : ℤ → ℤ → Value → Type 0) (f : Frame) (n : ℕ) (v : Value) where
   between_ends : IsSo (pos 0) (pos n) v → EachNumber f (number_place 0) (λ l. EachNumber f (number_place n) (λ h. IsSo (pos 1 *ℤ l) (pos 1 *ℤ h) v))

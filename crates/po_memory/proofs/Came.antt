@@ -5,6 +5,7 @@ use Rattle.std.specs.List.{range_with_len}
 use Rattle.std.proofs.lemmas.Int.{ints}
 use Rattle.std.proofs.lemmas.List.FromFn.{length-map-range_with_len}
 use Rattle.std.proofs.lemmas.List.{length-replicate}
+use Rattle.std.proofs.lemmas.Option.{same_Some}
 use Rattle.po_memory.specs.declared.block.Block.{Block}
 use Rattle.po_memory.specs.declared.value.Byte.{Byte}
 use Rattle.po_memory.specs.declared.value.Byte.TheVariants as byte
@@ -14,7 +15,7 @@ use Rattle.po_memory.specs.Blocks.{Spans, OnBlock, OnPointer}
 use Rattle.po_memory.specs.Bytes.{AreStored, IsCopied, AreCopied, zeros}
 use Rattle.po_memory.specs.Accesses.{PointsInto, Writes, overwritten, killed}
 use Rattle.po_memory.specs.Since.{BlockSince, Since, StoresKeep, CopiesKeep, FillsKeep, KillsKeep, NewKeeps, SinceItself, SinceThrough, SinceFurther, FreshKeeps}
-use Rattle.po_memory.proofs.General.{some_same, replicate_each}
+use Rattle.po_memory.proofs.General.{replicate_each}
 use Rattle.po_memory.proofs.Pasted.{pasted_size, pasted_keeps, get_range, range_size, mapped_at}
 
 -- ---- blocks
@@ -54,7 +55,7 @@ further k w k' w' (b ∷ bs) (c ∷ cs) kills writes h = (block_further k w k' w
 
 since_set : (k w : Bool) (bs : List Block) (i : ℕ) (b c : Block) → slice_get bs i ≡ Some b → BlockSince k w b c → Since k w bs (slice_set bs i c)
 since_set k w [] i b c there h = absurd (cc)
-since_set k w (x ∷ bs) zero b c there h = (subst (λ y. BlockSince k w y c) (sym (some_same x b there)) h, itself k w bs)
+since_set k w (x ∷ bs) zero b c there h = (subst (λ y. BlockSince k w y c) (sym (same_Some x b there)) h, itself k w bs)
 since_set k w (x ∷ bs) (suc i) b c there h = (block_itself k w x, since_set k w bs i b c there h)
 
 pub new_keeps : NewKeeps
@@ -150,7 +151,7 @@ blanks_copied [] [] (r ∷ rs) i h e = absurd h
 blanks_copied [] (o ∷ os) rs i h e = absurd h
 blanks_copied (s ∷ ss) [] rs i h e = absurd h
 blanks_copied (s ∷ ss) (o ∷ os) [] i h e = absurd h
-blanks_copied (s ∷ ss) (o ∷ os) (r ∷ rs) zero h e = ap Some (blank_copied s o (subst (IsCopied s o) (some_same r byte.Blank e) h.0))
+blanks_copied (s ∷ ss) (o ∷ os) (r ∷ rs) zero h e = ap Some (blank_copied s o (subst (IsCopied s o) (same_Some r byte.Blank e) h.0))
 blanks_copied (s ∷ ss) (o ∷ os) (r ∷ rs) (suc i) h e = blanks_copied ss os rs i h.1 e
 
 copied_size : (source old bytes : List Byte) → AreCopied source old bytes → length bytes ≡ length old
@@ -168,7 +169,7 @@ one_place blocks at b s b' s' c c' one two =
     let block : b ≡ b' = cc in
     let offset : pos s ≡ pos s' = cc in
     let start : s ≡ s' = omega (arith, ints) in
-    (block, start, some_same c c' (sym one.there ∙ (ap (slice_get blocks) block ∙ two.there)))
+    (block, start, same_Some c c' (sym one.there ∙ (ap (slice_get blocks) block ∙ two.there)))
 
 pub copies_keep : CopiesKeep
 copies_keep size blocks to from after spans h =

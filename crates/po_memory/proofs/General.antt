@@ -1,25 +1,20 @@
 -- Lists by place, and two lists side by side.
-use Rattle.std.proofs.Common.{◌≡◌, ℕ, zero, suc, ◌+◌, ◌<◌, List, [], ◌∷◌, refl, ap, ◌∙◌, subst, arith, length, drop}
-use Rattle.std.specs.Prelude.{Some, map, replicate, slice_get}
-use Rattle.std.specs.List.{AllZip, range_with_len}
+use Rattle.std.proofs.Common.{◌≡◌, ℕ, zero, suc, ◌+◌, ◌<◌, List, [], ◌∷◌, refl, ap, ◌∙◌, arith, length, drop}
+use Rattle.std.specs.Prelude.{ℤ, Some, map, replicate, slice_get}
+use Rattle.std.specs.List.{range_with_len}
+use Rattle.std.proofs.lemmas.Option.{same_Some}
+use Rattle.po_memory.specs.declared.value.Value.TheVariants.{Number}
 
-pub some_same : {X : Type 0} (x y : X) → Some x ≡ Some y → x ≡ y
-some_same x y e = cc
-
--- what stands beside an item
-pub zip_at : {A B : Type 0} (R : A → B → Type 0) (xs : List A) (ys : List B) (i : ℕ) (y : B) → AllZip R xs ys → slice_get ys i ≡ Some y → (x : A) × (slice_get xs i ≡ Some x) × R x y
-zip_at R [] [] i y h e = absurd (cc)
-zip_at R [] (z ∷ ys) i y h e = absurd h
-zip_at R (x ∷ xs) [] i y h e = absurd h
-zip_at R (x ∷ xs) (z ∷ ys) zero y h e = (x, refl, subst (R x) (some_same z y e) h.0)
-zip_at R (x ∷ xs) (z ∷ ys) (suc i) y h e = zip_at R xs ys i y h.1 e
+-- what a value that is a number tells
+pub one_number : (u v : ℤ) → Some (Number u) ≡ Some (Number v) → u ≡ v
+one_number u v e = cc
 
 -- a list whose items are those of a function of the places
 pub from_each : {X : Type 0} (f : ℕ → X) (xs : List X) (a : ℕ) → ((j : ℕ) → j < length xs → slice_get xs j ≡ Some (f (a + j))) → xs ≡ map f (range_with_len a (length xs))
 from_each f [] a each = refl
 from_each f (x ∷ xs) a each =
     let here : f (a + 0) ≡ f a = ap f (omega arith) in
-    let first : x ≡ f a = some_same x (f (a + 0)) (each 0 (omega arith)) ∙ here in
+    let first : x ≡ f a = same_Some x (f (a + 0)) (each 0 (omega arith)) ∙ here in
     let rest : xs ≡ map f (range_with_len (a + 1) (length xs)) = from_each f xs (a + 1) (λ j less. let next : a + suc j ≡ a + 1 + j = omega arith in each (suc j) (omega arith) ∙ ap (λ n. Some (f n)) next) in
     cc
 
@@ -35,7 +30,7 @@ replicate_each x (suc n) a = ap (λ t. x ∷ t) (replicate_each x n (a + 1))
 -- what stands from a place on begins with the item there
 pub drop_at : {X : Type 0} (xs : List X) (i : ℕ) (x : X) → slice_get xs i ≡ Some x → drop i xs ≡ x ∷ drop (suc i) xs
 drop_at [] i x e = absurd (cc)
-drop_at (y ∷ xs) zero x e = ap (λ z. z ∷ xs) (some_same y x e)
+drop_at (y ∷ xs) zero x e = ap (λ z. z ∷ xs) (same_Some y x e)
 drop_at (y ∷ xs) (suc i) x e = drop_at xs i x e
 
 pub map_map : {X Y Z : Type 0} (f : Y → Z) (g : X → Y) (xs : List X) → map f (map g xs) ≡ map (λ x. f (g x)) xs

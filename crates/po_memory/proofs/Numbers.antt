@@ -3,7 +3,7 @@ use Rattle.std.proofs.Common.{◌≡◌, ◌≤◌, ◌<◌, ◌+◌, ◌*◌, �
 use Rattle.std.specs.Prelude.{All, Some, map, slice_get, get_or}
 use Rattle.std.specs.List.{range_with_len}
 use Rattle.std.proofs.lemmas.List.Elements.{All-nil, All-cons}
-use Rattle.std.proofs.lemmas.Option.{slice_get-get_or}
+use Rattle.std.proofs.lemmas.Option.{slice_get-get_or, same_Some}
 use Rattle.std.proofs.lemmas.Nat.{pow-add, mod_below, pow_pos}
 use Rattle.std.proofs.Math.Arith.{mod-mul}
 use Rattle.std.proofs.Math.Nat.{div-div-eq-div-mul, mod-one, div-one, pow-le-pow_right}
@@ -12,7 +12,7 @@ use Rattle.po_memory.specs.declared.value.Byte.{Byte}
 use Rattle.po_memory.specs.declared.value.Byte.TheVariants as byte
 use Rattle.po_memory.specs.Bytes.{AreNumbers, joined}
 use Rattle.po_memory.specs.Walking.{AreJoined, AreNoNumbers, digit}
-use Rattle.po_memory.proofs.General.{some_same, drop_at, map_map}
+use Rattle.po_memory.proofs.General.{drop_at, map_map}
 
 number_same : (n m : ℕ) → byte.Number n ≡ byte.Number m → n ≡ m
 number_same n m e = cc
@@ -36,7 +36,7 @@ one_list ns ms bytes one other = numbers_same ns ms (sym one.same ∙ other.same
 
 number_at : (ns : List ℕ) (i : ℕ) (b : Byte) → slice_get (map byte.Number ns) i ≡ Some b → (n : ℕ) × (b ≡ byte.Number n)
 number_at [] i b e = absurd (cc)
-number_at (n ∷ ns) zero b e = (n, sym (some_same (byte.Number n) b e))
+number_at (n ∷ ns) zero b e = (n, sym (same_Some (byte.Number n) b e))
 number_at (n ∷ ns) (suc i) b e = number_at ns i b e
 
 -- where numbers stand each byte is one

@@ -2,6 +2,9 @@
 use Rattle.std.proofs.Common.{◌≡◌, ℕ, List, refl, sym, ap, subst, ◌∙◌, inl, inr, arith}
 use Rattle.std.specs.Prelude.{ℤ, pos, ◌≤ℤ◌, Option, Some, None, slice_get}
 use Rattle.std.proofs.lemmas.Int.{ints}
+use Rattle.std.proofs.lemmas.Option.{same_Some}
+use Rattle.po_lists.proofs.Places.{zip_at}
+use Rattle.po_memory.proofs.General.{one_number}
 use Rattle.po_base.specs.declared.operand.Opnd.{Opnd}
 use Rattle.po_base.specs.declared.operand.Opnd.TheVariants as operand
 use Rattle.po_pred.specs.declared.pred.Atom.{Atom}
@@ -16,7 +19,6 @@ use Rattle.po_memory.specs.declared.value.Value.TheVariants.{Number, Null}
 use Rattle.po_memory.specs.Values.{moved, IsPointer}
 use Rattle.po_memory.specs.Holding.{Holds}
 use Rattle.po_memory.specs.Passing.{HasValue, ArePassed, ParameterIs, IsNumber, IsPointerPlace, IsNumberPlace, PlacesAre, SubstKeepsHolds}
-use Rattle.po_memory.proofs.General.{some_same, zip_at}
 use Rattle.po_memory.proofs.Along.{SamePointer, SameNumber, holds_along, own_places, places_turned}
 
 abbrev placed : Option Atom → ℤ → ℤ → Place
@@ -30,9 +32,6 @@ record BothPointers (f : Frame) (p : Place) (g : Frame) (r : Place) : Type 0 whe
 record BothNumbers (f : Frame) (x : Place) (g : Frame) (y : Place) : Type 0 where
   there : SameNumber f x g y
   here : SameNumber g y f x
-
-number_same : (u w : ℤ) → Some (Number u) ≡ Some (Number w) → u ≡ w
-number_same u w e = cc
 
 -- an operand that is a number and a pointer is null
 null_operand : (n : ℤ) (caller : Frame) (v : Value) → HasValue caller (operand.Num n) v → IsPointer v → v ≡ Null
@@ -60,11 +59,11 @@ module _ (caller callee : Frame) (i : ℕ) (v : Value) (at : slice_get callee.ar
       record {
         there = record {
           has = λ h. (Null, refl, tt);
-          back = λ w c. (Null, lo, at ∙ ap Some none, omega (arith, ints), sorted, c.5 ∙ ap (λ (u : Value). moved u c.1) (sym (some_same Null c.0 c.2)));
+          back = λ w c. (Null, lo, at ∙ ap Some none, omega (arith, ints), sorted, c.5 ∙ ap (λ (u : Value). moved u c.1) (sym (same_Some Null c.0 c.2)));
         };
         here = record {
           has = λ h. (Null, at ∙ ap Some none, tt);
-          back = λ w c. (Null, pos 0, refl, omega (arith, ints), omega (arith, ints), c.5 ∙ ap (λ (u : Value). moved u c.1) (sym (some_same Null c.0 (sym (at ∙ ap Some none) ∙ c.2))));
+          back = λ w c. (Null, pos 0, refl, omega (arith, ints), omega (arith, ints), c.5 ∙ ap (λ (u : Value). moved u c.1) (sym (same_Some Null c.0 (sym (at ∙ ap Some none) ∙ c.2))));
         };
       }
 
@@ -85,11 +84,11 @@ module _ (caller callee : Frame) (i : ℕ) (v : Value) (at : slice_get callee.ar
       record {
         there = record {
           has = λ h. (pos 0, refl);
-          back = λ z c. let none : pos 0 ≡ c.0 = number_same (pos 0) c.0 c.1 in let low = c.2 in let high = c.3 in (u, stands, omega (arith, ints), omega (arith, ints));
+          back = λ z c. let none : pos 0 ≡ c.0 = one_number (pos 0) c.0 c.1 in let low = c.2 in let high = c.3 in (u, stands, omega (arith, ints), omega (arith, ints));
         };
         here = record {
           has = λ h. (u, stands);
-          back = λ z c. let one : u ≡ c.0 = number_same u c.0 (sym stands ∙ c.1) in let low = c.2 in let high = c.3 in (pos 0, refl, omega (arith, ints), omega (arith, ints));
+          back = λ z c. let one : u ≡ c.0 = one_number u c.0 (sym stands ∙ c.1) in let low = c.2 in let high = c.3 in (pos 0, refl, omega (arith, ints), omega (arith, ints));
         };
       }
 

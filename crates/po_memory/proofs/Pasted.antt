@@ -4,30 +4,10 @@ use Rattle.std.specs.Prelude.{Some, map, slice_get, slice_range}
 use Rattle.std.proofs.lemmas.List.{length-take-le}
 use Rattle.std.proofs.lemmas.Bool.{cases_lt}
 use Rattle.std.proofs.Math.Seq.{drop-append_seam}
+use Rattle.std.proofs.lemmas.Option.{same_Some}
+use Rattle.po_lists.proofs.Places.{first_at, taken_at, dropped_at, second_at}
 use Rattle.po_memory.specs.declared.value.Byte.{Byte}
 use Rattle.po_memory.specs.Accesses.{pasted}
-use Rattle.po_memory.proofs.General.{some_same}
-
-get_front : {X : Type 0} (xs ys : List X) (i : ℕ) → i < length xs → slice_get (xs ++ ys) i ≡ slice_get xs i
-get_front [] ys i less = absurd (omega arith)
-get_front (x ∷ xs) ys zero less = refl
-get_front (x ∷ xs) ys (suc i) less = get_front xs ys i (omega arith)
-
-get_back : {X : Type 0} (xs ys : List X) (n i : ℕ) → length xs ≡ n → slice_get (xs ++ ys) (n + i) ≡ slice_get ys i
-get_back [] ys n i size = let same : n + i ≡ i = omega arith in ap (slice_get ys) same
-get_back (x ∷ xs) ys zero i size = absurd (omega arith)
-get_back (x ∷ xs) ys (suc n) i size = let next : suc n + i ≡ suc (n + i) = omega arith in ap (slice_get (x ∷ xs ++ ys)) next ∙ get_back xs ys n i (omega arith)
-
-get_take : {X : Type 0} (xs : List X) (n i : ℕ) → i < n → slice_get (take n xs) i ≡ slice_get xs i
-get_take xs zero i less = absurd (omega arith)
-get_take [] (suc n) i less = refl
-get_take (x ∷ xs) (suc n) zero less = refl
-get_take (x ∷ xs) (suc n) (suc i) less = get_take xs n i (omega arith)
-
-get_drop : {X : Type 0} (xs : List X) (n i : ℕ) → slice_get (drop n xs) i ≡ slice_get xs (n + i)
-get_drop xs zero i = let same : i ≡ 0 + i = omega arith in ap (slice_get xs) same
-get_drop [] (suc n) i = refl
-get_drop (x ∷ xs) (suc n) i = let next : suc (n + i) ≡ suc n + i = omega arith in get_drop xs n i ∙ ap (slice_get (x ∷ xs)) next
 
 take_front : {X : Type 0} (xs ys : List X) (n : ℕ) → length xs ≡ n → take n (xs ++ ys) ≡ xs
 take_front [] ys zero size = refl
@@ -39,7 +19,7 @@ take_front (x ∷ xs) ys (suc n) size = ap (λ t. x ∷ t) (take_front xs ys n (
 pub get_range : {X : Type 0} (xs : List X) (start size i : ℕ) → i < size → slice_get (slice_range xs start (start + size)) i ≡ slice_get xs (start + i)
 get_range xs start size i less =
     let count : start + size - start ≡ size = omega arith in
-    ap (λ n. slice_get (take n (drop start xs)) i) count ∙ (get_take (drop start xs) size i less ∙ get_drop xs start i)
+    ap (λ n. slice_get (take n (drop start xs)) i) count ∙ (taken_at size (drop start xs) i less ∙ dropped_at start xs i)
 
 pub range_size : {X : Type 0} (xs : List X) (start size : ℕ) → start + size ≤ length xs → length (slice_range xs start (start + size)) ≡ size
 range_size xs start size room =
@@ -49,7 +29,7 @@ range_size xs start size room =
 
 pub mapped_at : {X Y : Type 0} (f : X → Y) (xs : List X) (i : ℕ) (y : Y) → slice_get (map f xs) i ≡ Some y → (x : X) × (y ≡ f x)
 mapped_at f [] i y e = absurd (cc)
-mapped_at f (x ∷ xs) zero y e = (x, sym (some_same (f x) y e))
+mapped_at f (x ∷ xs) zero y e = (x, sym (same_Some (f x) y e))
 mapped_at f (x ∷ xs) (suc i) y e = mapped_at f xs i y e
 
 module _ (old : List Byte) (start : ℕ) (bytes : List Byte) (room : start + length bytes ≤ length old) where
@@ -67,15 +47,15 @@ module _ (old : List Byte) (start : ℕ) (bytes : List Byte) (room : start + len
   pub pasted_before : (i : ℕ) → i < start → slice_get (pasted old start bytes) i ≡ slice_get old i
   pasted_before i less =
       let b = before_size in
-      get_front (take start old) (bytes ++ drop (start + length bytes) old) i (omega arith) ∙ get_take old start i less
+      first_at (take start old) (bytes ++ drop (start + length bytes) old) i (omega arith) ∙ taken_at start old i less
 
   pub pasted_inside : (i : ℕ) → i < length bytes → slice_get (pasted old start bytes) (start + i) ≡ slice_get bytes i
-  pasted_inside i less = get_back (take start old) (bytes ++ drop (start + length bytes) old) start i before_size ∙ get_front bytes (drop (start + length bytes) old) i less
+  pasted_inside i less = second_at (take start old) (bytes ++ drop (start + length bytes) old) start i before_size ∙ first_at bytes (drop (start + length bytes) old) i less
 
   pub pasted_behind : (i : ℕ) → slice_get (pasted old start bytes) (start + (length bytes + i)) ≡ slice_get old (start + length bytes + i)
   pasted_behind i =
-      get_back (take start old) (bytes ++ drop (start + length bytes) old) start (length bytes + i) before_size
-      ∙ (get_back bytes (drop (start + length bytes) old) (length bytes) i refl ∙ get_drop old (start + length bytes) i)
+      second_at (take start old) (bytes ++ drop (start + length bytes) old) start (length bytes + i) before_size
+      ∙ (second_at bytes (drop (start + length bytes) old) (length bytes) i refl ∙ dropped_at (start + length bytes) old i)
 
   -- what was written is read again
   pub pasted_range : (size : ℕ) → length bytes ≡ size → slice_range (pasted old start bytes) start (start + size) ≡ bytes

@@ -1,3 +1,2 @@
-pub mod General
 pub mod Listed
 pub mod Moved

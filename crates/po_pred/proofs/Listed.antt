@@ -4,6 +4,7 @@ use Rattle.std.specs.Prelude.{ℤ, pos, neg_ℤ, ◌+ℤ◌, ◌≤ℤ◌, ◌<�
 use Rattle.std.specs.List.{Contains}
 use Rattle.std.proofs.lemmas.Int.{ints, by_lt_z}
 use Rattle.std.proofs.lemmas.List.Elements.{All-head, All-tail, Contains-append_left, Contains-append_right}
+use Rattle.po_lists.proofs.Members.{Has, contains, contains_map, contains_flat_map}
 use Rattle.po_pred.specs.declared.pred.Atom.{Atom}
 use Rattle.po_pred.specs.declared.pred.Atom.TheVariants.{Reg, Param}
 use Rattle.po_pred.specs.declared.pred.Over.{Over}
@@ -15,7 +16,6 @@ use Rattle.po_pred.specs.declared.view.View.{View}
 use Rattle.po_pred.specs.View.{view_of, viewed, added}
 use Rattle.po_pred.specs.OrderLaws.{viewed_back}
 use Rattle.po_pred.specs.Finite.{IsNumber, IsOffset, IsPlaceFrom, IsPlaceOver, IsOver, crossed, numbers_below, numbers_from, all_numbers, all_offsets, placed, parameter_places, optional_places, all_operators, Head, Scale, Sides, Ends, Left, Right, joined, all_heads, all_scales, all_left, all_sides, all_right, all_ends, all_views, predicates_over}
-use Rattle.po_pred.proofs.General.{Has, contains, contains_map, contains_flat_map}
 
 contains_crossed : {A B C : Type 0} (f : A → B → C) (xs : List A) (ys : List B) (x : A) (y : B) → Contains xs x → Contains ys y → Contains (crossed f xs ys) (f x y)
 unfolding crossed

@@ -1,13 +1,14 @@
 -- The comparison of predicates is an order, and equal predicates are the same.
-use Rattle.std.specs.Prelude.{ℕ, ℤ, ◌<◌, ◌<ℤ◌, [], ◌∷◌, Option, Some, None, ◌≡◌, ◌↔◌, IsTrue, slice_index_or}
-use Rattle.std.proofs.Common.{refl, sym, ap, ◌∙◌, subst, arith}
+use Rattle.std.specs.Prelude.{ℕ, [], ◌∷◌, Option, Some, None, ◌≡◌, ◌↔◌, IsTrue, slice_index_or}
+use Rattle.std.proofs.Common.{refl, sym, ap, ◌∙◌, arith}
 use Rattle.std.specs.Option.{option_cmp}
 use Rattle.std.specs.declared.cmp.Ordering.{Ordering}
 use Rattle.std.specs.declared.cmp.Ordering.TheVariants.{Less, Equal, Greater}
-use Rattle.std.specs.Ordering.{nat_cmp, int_cmp, ordering_then, ordering_reverse, is_eq, eq_by_cmp, MatchOrdering}
+use Rattle.std.specs.Ordering.{ordering_reverse, is_eq, eq_by_cmp}
 use Rattle.std.specs.Cmp.{IsTotalOrder, then_total, on_total, nat_cmp_total, int_cmp_total, Equal-is, tied_itself}
 use Rattle.std.specs.Cmp.Lexicographic.{options_total}
-use Rattle.std.proofs.lemmas.Cmp.{ranked, int_ranked}
+use Rattle.po_lists.proofs.Orders.{both_equal, int_same}
+use Rattle.std.proofs.lemmas.Map.Lookups.{exact_unsigned}
 use Rattle.po_pred.specs.declared.pred.Atom.{Atom}
 use Rattle.po_pred.specs.declared.pred.Atom.TheVariants.{Reg, Param}
 use Rattle.po_pred.specs.declared.pred.Place.{Place}
@@ -49,20 +50,6 @@ pred_total = on_total view_of view_total
 
 -- ---- equal is the same
 
-both : (r s : Ordering) → ordering_then r s ≡ Equal → (r ≡ Equal) × (s ≡ Equal)
-both Less s same = cc
-both Equal s same = (refl, same)
-both Greater s same = cc
-
-ranked_same : (P Q R : Type 0) (r : Ordering) → r ≡ Equal → MatchOrdering r P Q R → Q
-ranked_same P Q R r same given = subst (λ o. MatchOrdering o P Q R) same given
-
-nat_same : (m n : ℕ) → nat_cmp m n ≡ Equal → m ≡ n
-nat_same m n same = ranked_same (m < n) (m ≡ n) (n < m) (nat_cmp m n) same (ranked m n (nat_cmp m n) refl)
-
-int_same : (m n : ℤ) → int_cmp m n ≡ Equal → m ≡ n
-int_same m n same = ranked_same (m <ℤ n) (m ≡ n) (n <ℤ m) (int_cmp m n) same (int_ranked m n (int_cmp m n) refl)
-
 atom_same : (a b : Option Atom) → atom_rank a ≡ atom_rank b → atom_number a ≡ atom_number b → a ≡ b
 atom_same None None rank number = refl
 atom_same None (Some (Reg r)) rank number = absurd (omega arith)
@@ -76,10 +63,10 @@ atom_same (Some (Param i)) (Some (Param j)) rank number = λ k. Some (Param (num
 
 pub place_same : (p q : Place) → place_cmp p q ≡ Equal → p ≡ q
 place_same p q same =
-    let at_rank = both _ _ same in
-    let at_number = both _ _ at_rank.1 in
-    let at_lo = both _ _ at_number.1 in
-    let atom = atom_same p.atom q.atom (nat_same _ _ at_rank.0) (nat_same _ _ at_number.0) in
+    let at_rank = both_equal _ _ same in
+    let at_number = both_equal _ _ at_rank.1 in
+    let at_lo = both_equal _ _ at_number.1 in
+    let atom = atom_same p.atom q.atom (exact_unsigned _ _ at_rank.0) (exact_unsigned _ _ at_number.0) in
     let lo = int_same _ _ at_lo.0 in
     let hi = int_same _ _ at_lo.1 in
     λ i. record { atom = atom i; lo = lo i; hi = hi i }
@@ -109,17 +96,17 @@ operator_same o p rank = sym (operator_back o) ∙ ap operator_at rank ∙ opera
 
 view_same : (v w : View) → view_cmp v w ≡ Equal → v ≡ w
 view_same v w same =
-    let at_kind = both _ _ same in
-    let at_operator = both _ _ at_kind.1 in
-    let at_width = both _ _ at_operator.1 in
-    let at_places = both (places_cmp v w) (numbers_cmp v w) at_width.1 in
-    let at_first = both _ _ at_places.0 in
-    let at_second = both _ _ at_first.1 in
-    let at_factor = both _ _ at_places.1 in
-    let at_low = both _ _ at_factor.1 in
-    let kind = nat_same _ _ at_kind.0 in
-    let operator = operator_same v.operator w.operator (nat_same _ _ at_operator.0) in
-    let width = nat_same _ _ at_width.0 in
+    let at_kind = both_equal _ _ same in
+    let at_operator = both_equal _ _ at_kind.1 in
+    let at_width = both_equal _ _ at_operator.1 in
+    let at_places = both_equal (places_cmp v w) (numbers_cmp v w) at_width.1 in
+    let at_first = both_equal _ _ at_places.0 in
+    let at_second = both_equal _ _ at_first.1 in
+    let at_factor = both_equal _ _ at_places.1 in
+    let at_low = both_equal _ _ at_factor.1 in
+    let kind = exact_unsigned _ _ at_kind.0 in
+    let operator = operator_same v.operator w.operator (exact_unsigned _ _ at_operator.0) in
+    let width = exact_unsigned _ _ at_width.0 in
     let first = optional_same _ _ at_first.0 in
     let second = optional_same _ _ at_second.0 in
     let third = optional_same _ _ at_second.1 in

@@ -3,10 +3,11 @@ use Rattle.std.proofs.Common.{◌≡◌, ◌≢◌, ℕ, List, [], ◌∷◌, �
 use Rattle.std.specs.Prelude.{Contains, codes}
 use Rattle.std.proofs.lemmas.Bool.Decides.{eqb_tells}
 use Rattle.std.proofs.lemmas.List.{take-append-drop}
+use Rattle.po_lists.proofs.Members.{contains_none, contains_cases, contains_head, contains_tail}
+use Rattle.po_lists.proofs.Booleans.{bool_cases}
 use Rattle.po_symbols.specs.Linking.{IsSizeless, Differ}
 use Rattle.po_symbols.specs.Differing.{follows_bracket, is_sizeless, differ}
-use Rattle.po_symbols.proofs.Places.{bool_cases, bytes_same, same_bytes}
-use Rattle.po_symbols.proofs.Contained.{contains_none, contains_cases, contains_head, contains_tail}
+use Rattle.po_symbols.proofs.Places.{bytes_same, same_bytes}
 
 -- ---- what follows the first `]`
 

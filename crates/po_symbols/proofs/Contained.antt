@@ -1,23 +1,8 @@
 -- What is among the items of a list.
-use Rattle.std.proofs.Common.{◌≡◌, List, [], ◌∷◌, Bool, true, false, refl, sym, ◌∙◌, ◌⊎◌, inl, inr, subst, arith}
+use Rattle.std.proofs.Common.{◌≡◌, List, [], ◌∷◌, Bool, true, false, refl, sym, ◌∙◌, inl, inr, subst}
 use Rattle.std.specs.Prelude.{Some, None, Contains, find}
-use Rattle.std.proofs.lemmas.List.Elements.{Contains-append_cases, Contains-append_right, Contains-push_cases}
-use Rattle.po_symbols.proofs.Places.{bool_cases}
-
-pub contains_none : {X : Type 0} (x : X) → Contains [] x → ⊥
-contains_none x c = let h = c.1 in absurd (omega arith)
-
-pub contains_cases : {X : Type 0} (y : X) (ys : List X) (x : X) → Contains (y ∷ ys) x → (y ≡ x) ⊎ Contains ys x
-contains_cases y ys x c = elim (Contains-append_cases (y ∷ []) ys x c) [
-  | inl a ↦ elim (Contains-push_cases [] y x a) [ inl n ↦ absurd (contains_none x n) | inr e ↦ inl e ]
-  | inr b ↦ inr b
-]
-
-pub contains_head : {X : Type 0} (x : X) (ys : List X) → Contains (x ∷ ys) x
-contains_head x ys = (0, (omega arith), refl)
-
-pub contains_tail : {X : Type 0} (y : X) (ys : List X) (x : X) → Contains ys x → Contains (y ∷ ys) x
-contains_tail y ys x c = Contains-append_right (y ∷ []) ys x c
+use Rattle.po_lists.proofs.Members.{contains_none, contains_cases, contains_head, contains_tail}
+use Rattle.po_lists.proofs.Booleans.{bool_cases}
 
 pub find_there : {X : Type 0} (p : X → Bool) (xs : List X) (y : X) → find p xs ≡ Some y → Contains xs y × (p y ≡ true)
 find_there p [] y h = absurd (cc)

@@ -1,7 +1,7 @@
 -- The first name in order that has a pair of files is the least.
-use Rattle.std.proofs.Common.{◌≡◌, ◌≢◌, ℕ, zero, suc, List, [], ◌∷◌, ◌++◌, true, length, map, refl, ap, sym, ◌∙◌, inl, inr, subst, append_assoc, append-nil}
+use Rattle.std.proofs.Common.{◌≡◌, ◌≢◌, ℕ, List, [], ◌∷◌, ◌++◌, length, refl, ap, sym, ◌∙◌, inl, inr, subst, append_assoc, append-nil}
 use Rattle.std.specs.Prelude.{Option, Some, None, Contains, slice_get, unwrap_or}
-use Rattle.std.specs.Ordering.{nat_cmp, is_eq, ordering_reverse}
+use Rattle.std.specs.Ordering.{nat_cmp, ordering_reverse}
 use Rattle.std.specs.Cmp.Lexicographic.{slice_cmp}
 use Rattle.std.specs.declared.cmp.Ordering.{Ordering}
 use Rattle.std.specs.declared.cmp.Ordering.TheVariants.{Less, Equal, Greater}
@@ -13,40 +13,21 @@ use Rattle.std.proofs.lemmas.List.Elements.{All-from_recursion, All-contains, Co
 use Rattle.std.proofs.lemmas.Map.Keys.{sorted_head, sorted_tail}
 use Rattle.std.proofs.lemmas.Map.Entries.{place_from_lookup, btree_map_get_place}
 use Rattle.std.proofs.lemmas.Map.Lookups.{exact_bytes}
+use Rattle.po_lists.proofs.Members.{contains_none, contains_cases, contains_item, contains_map}
+use Rattle.po_lists.proofs.Places.{behind_at}
+use Rattle.po_lists.proofs.Orders.{equal_where_tested}
+use Rattle.po_lists.proofs.Options.{option_cases}
 use Rattle.po_symbols.specs.Names.{named, listed}
 use Rattle.po_symbols.specs.Causes.{IsPairOf, IsFound}
 use Rattle.po_symbols.specs.declared.causes.Cause.{Cause}
-use Rattle.po_symbols.proofs.Places.{option_cases}
-use Rattle.po_symbols.proofs.Contained.{contains_none, contains_cases, contains_head, contains_tail}
 
 abbrev pub Name : Type 0
 Name = List ℕ
 
-item_among : {X : Type 0} (xs : List X) (i : ℕ) (x : X) → slice_get xs i ≡ Some x → Contains xs x
-item_among [] i x h = absurd (cc)
-item_among (y ∷ ys) zero x h = let e : y ≡ x = cc in subst (λ z. Contains (y ∷ ys) z) e (contains_head y ys)
-item_among (y ∷ ys) (suc i) x h = contains_tail y ys x (item_among ys i x h)
-
-among_mapped : {X Y : Type 0} (f : X → Y) (xs : List X) (x : X) → Contains xs x → Contains (map f xs) (f x)
-among_mapped f [] x c = absurd (contains_none x c)
-among_mapped f (y ∷ ys) x c = elim (contains_cases y ys x c) [
-  | inl e ↦ subst (λ z. Contains (f y ∷ map f ys) z) (ap f e) (contains_head (f y) (map f ys))
-  | inr d ↦ contains_tail (f y) (map f ys) (f x) (among_mapped f ys x d)
-]
-
-item_behind : {X : Type 0} (before rest : List X) (x : X) → slice_get (before ++ x ∷ rest) (length before) ≡ Some x
-item_behind [] rest x = refl
-item_behind (y ∷ ys) rest x = item_behind ys rest x
-
 -- keys behind another are above it
 sorted_behind : {X : Type 0} (c : Name → Name → Ordering) (before : List (Name × X)) (e : Name × X) (rest : List (Name × X)) (x : Name × X) → IsStrictlySortedBy c (keys_of (before ++ e ∷ rest)) → Contains rest x → c e.0 x.0 ≡ Less
-sorted_behind c [] e rest x s k = All-contains (λ y. c e.0 y ≡ Less) (keys_of rest) x.0 (All-from_recursion _ (keys_of rest) (sorted_head c e.0 (keys_of rest) s)) (among_mapped (λ z. z.0) rest x k)
+sorted_behind c [] e rest x s k = All-contains (λ y. c e.0 y ≡ Less) (keys_of rest) x.0 (All-from_recursion _ (keys_of rest) (sorted_head c e.0 (keys_of rest) s)) (contains_map (λ z. z.0) rest x k)
 sorted_behind c (y ∷ ys) e rest x s k = sorted_behind c ys e rest x (sorted_tail c y.0 (keys_of (ys ++ e ∷ rest)) s) k
-
-equal_from : (r : Ordering) → is_eq r ≡ true → r ≡ Equal
-equal_from Less h = absurd (cc)
-equal_from Equal h = refl
-equal_from Greater h = absurd (cc)
 
 self_equal : (r : Ordering) → r ≡ ordering_reverse r → r ≡ Equal
 self_equal Less h = absurd (cc)
@@ -81,9 +62,9 @@ module _ {X : Type 0} (pick : List X → Option (ℕ × ℕ)) (P : Name → ℕ 
         absurd (subst (IsPairOf (P q)) empty (is q) a b p)
     | inr s ↦
         let place = place_from_lookup (is_at (slice_cmp nat_cmp q)) m.entries s.0 s.1 in
-        let key : q ≡ place.1 = exact_bytes q place.1 (equal_from _ place.3) in (
+        let key : q ≡ place.1 = exact_bytes q place.1 (equal_where_tested _ place.3) in (
           s.0,
-          subst (λ k. Contains m.entries (k, s.0)) (sym key) (item_among m.entries place.0 (place.1, s.0) place.2),
+          subst (λ k. Contains m.entries (k, s.0)) (sym key) (contains_item m.entries place.0 (place.1, s.0) place.2),
           λ none. let empty : pick (listed m q) ≡ None = ap (λ o. pick (unwrap_or o [])) s.1 ∙ none in subst (IsPairOf (P q)) empty (is q) a b p,
         )
   ]
@@ -98,7 +79,7 @@ module _ {X : Type 0} (pick : List X → Option (ℕ × ℕ)) (P : Name → ℕ 
       (cause.name ≡ name) × (cause.a.0 ≡ pair.0) × (cause.b.0 ≡ pair.1) → IsFound P (Some cause)
   first_found order rest next name files pair cause s h some made =
       let split : s.before ++ (name, files) ∷ next ≡ m.entries = ap (λ z. s.before ++ z) (sym h) ∙ s.split in
-      let at : slice_get m.entries (length s.before) ≡ Some (name, files) = subst (λ l. slice_get l (length s.before) ≡ Some (name, files)) split (item_behind s.before next (name, files)) in
+      let at : slice_get m.entries (length s.before) ≡ Some (name, files) = subst (λ l. slice_get l (length s.before) ≡ Some (name, files)) split (behind_at s.before next (name, files)) in
       let there : named m name ≡ Some files = btree_map_get_place nat_list_cmp_total m (length s.before) name files order at in
       let picked : pick (listed m name) ≡ Some pair = ap (λ o. pick (unwrap_or o [])) there ∙ some in
       let least : IsPairOf (P name) (Some pair) = subst (IsPairOf (P name)) picked (is name) in

@@ -1,11 +1,14 @@
 -- One file more, or one name more, in what is listed.
-use Rattle.std.proofs.Common.{◌≡◌, ◌≢◌, ℕ, zero, suc, ◌+◌, ◌-◌, ◌<◌, ◌≤◌, ◌==◌, List, [], ◌∷◌, ◌++◌, true, false, cond, length, take, get_or, refl, ap, sym, ◌∙◌, inl, inr, subst, append_assoc, append-nil, bytes_eq, arith}
+use Rattle.std.proofs.Common.{◌≡◌, ◌≢◌, ℕ, zero, suc, ◌+◌, ◌-◌, ◌<◌, ◌≤◌, ◌==◌, List, [], ◌∷◌, ◌++◌, true, false, cond, length, take, get_or, refl, ap, sym, ◌∙◌, inl, inr, append_assoc, append-nil, bytes_eq, arith}
 use Rattle.std.specs.Prelude.{Some, None, Contains, find, flat_map, slice_get, option_map}
 use Rattle.std.specs.Option.{option_or, option_map_or}
 use Rattle.std.specs.BTreeMap.{BTreeMap}
 use Rattle.std.proofs.lemmas.List.{take_more, length_push, length-take-le}
 use Rattle.std.proofs.lemmas.List.Concat.{flat_map-append}
 use Rattle.std.proofs.lemmas.Bool.{eq-eqb, ne_eqb}
+use Rattle.po_lists.proofs.Members.{contains_item}
+use Rattle.po_lists.proofs.Booleans.{bool_cases}
+use Rattle.po_lists.proofs.Options.{option_cases}
 use Rattle.po_ir.specs.declared.project.CTypeText.{CTypeText}
 use Rattle.po_ir.specs.declared.project.Function.{Function}
 use Rattle.po_ir.specs.declared.project.Global.{Global}
@@ -15,8 +18,7 @@ use Rattle.po_ir.proofs.General.{from_each, each_from-more}
 use Rattle.po_symbols.specs.Linking.{function_body, global_body, bodies, declares, spelling_of, type_in}
 use Rattle.po_symbols.specs.Names.{listed}
 use Rattle.po_symbols.specs.Said.{AreBodies, AreTypes, mark, marks, function_marks, global_marks, marks_at, body_files, typed_in, type_at, typed_files, ends_with_file, with_type}
-use Rattle.po_symbols.proofs.Places.{bool_cases, option_cases, find-push}
-use Rattle.po_symbols.proofs.Contained.{contains_head, contains_tail}
+use Rattle.po_symbols.proofs.Places.{find-push}
 use Rattle.po_symbols.proofs.SaidOf.{there_typed}
 
 -- ---- bodies
@@ -44,16 +46,11 @@ last_is xs y = let l = length_push xs y in let e : length (xs ++ y ∷ []) - 1 �
 ends_pushed : (xs : List (ℕ × List ℕ)) (file : ℕ) (type : List ℕ) → ends_with_file (xs ++ (file, type) ∷ []) file ≡ true
 ends_pushed xs file type = ap (λ o. option_map_or (λ (last : ℕ × List ℕ). last.0 == file) o false) (last_is xs (file, type)) ∙ eq-eqb file file refl
 
-item_among : {X : Type 0} (xs : List X) (i : ℕ) (x : X) → slice_get xs i ≡ Some x → Contains xs x
-item_among [] i x h = absurd (cc)
-item_among (y ∷ ys) zero x h = let e : y ≡ x = cc in subst (λ z. Contains (y ∷ ys) z) e (contains_head y ys)
-item_among (y ∷ ys) (suc i) x h = contains_tail y ys x (item_among ys i x h)
-
 -- what earlier files say doesn't end with a later one
 ends_before : (xs : List (ℕ × List ℕ)) (file : ℕ) → ((y : ℕ × List ℕ) → Contains xs y → y.0 ≢ file) → ends_with_file xs file ≡ false
 ends_before xs file h = elim (option_cases (slice_get xs (length xs - 1))) [
   | inl none ↦ ap (λ o. option_map_or (λ (last : ℕ × List ℕ). last.0 == file) o false) none
-  | inr s ↦ ap (λ o. option_map_or (λ (last : ℕ × List ℕ). last.0 == file) o false) s.1 ∙ ne_eqb s.0.0 file (h s.0 (item_among xs (length xs - 1) s.0 s.1))
+  | inr s ↦ ap (λ o. option_map_or (λ (last : ℕ × List ℕ). last.0 == file) o false) s.1 ∙ ne_eqb s.0.0 file (h s.0 (contains_item xs (length xs - 1) s.0 s.1))
 ]
 
 below_count : (name : List ℕ) (n : ℕ) (units : List FileUnit) (y : ℕ × List ℕ) → Contains (each_from (type_at name) n units) y → y.0 < n + length units

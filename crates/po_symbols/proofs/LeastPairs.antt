@@ -3,11 +3,14 @@ use Rattle.std.proofs.Common.{◌≡◌, ◌≢◌, ℕ, ◌<◌, ◌≤◌, Lis
 use Rattle.std.specs.Prelude.{Option, Some, None, Contains, find, option_map}
 use Rattle.std.specs.Option.{option_or}
 use Rattle.std.proofs.lemmas.Bool.Decides.{eqb_tells}
+use Rattle.po_lists.proofs.Members.{contains_none, contains_cases, contains_head, contains_tail}
+use Rattle.po_lists.proofs.Booleans.{bool_cases}
+use Rattle.po_lists.proofs.Options.{option_cases}
 use Rattle.po_symbols.specs.Linking.{Differ}
 use Rattle.po_symbols.specs.Pairs.{is_other, two_of, differs, pair_beyond, clash_of}
 use Rattle.po_symbols.specs.Causes.{IsPairOf}
-use Rattle.po_symbols.proofs.Places.{bool_cases, option_cases, bytes_same, same_bytes}
-use Rattle.po_symbols.proofs.Contained.{contains_none, contains_cases, contains_head, contains_tail, find_there, find_nothing}
+use Rattle.po_symbols.proofs.Places.{bytes_same, same_bytes}
+use Rattle.po_symbols.proofs.Contained.{find_there, find_nothing}
 use Rattle.po_symbols.proofs.Apart.{apart, told, with_third}
 
 -- pairs that are related alike have the same least

@@ -3,6 +3,7 @@ use Rattle.std.proofs.Common.{◌≡◌, ℕ, ◌+◌, ◌<◌, ◌≤◌, List,
 use Rattle.std.specs.Prelude.{Option, Some, None, MatchOption, Contains, slice_get}
 use Rattle.std.specs.Option.{option_map_or}
 use Rattle.std.proofs.lemmas.List.Elements.{Contains-append_left, Contains-append_right, Contains-append_cases}
+use Rattle.po_lists.proofs.Members.{contains_none, contains_cases, contains_head, contains_tail}
 use Rattle.po_ir.specs.declared.unit.Unit.{Unit as FileUnit}
 use Rattle.po_ir.specs.General.{each_from}
 use Rattle.po_ir.proofs.General.{into_each, from_each, alone}
@@ -11,7 +12,6 @@ use Rattle.po_symbols.specs.Said.{mark, marks, marks_at, body_files, type_at, ty
 use Rattle.po_symbols.specs.Pairs.{two_of, clash_of}
 use Rattle.po_symbols.specs.Causes.{IsPairOf}
 use Rattle.po_symbols.proofs.Places.{bytes_same, same_bytes}
-use Rattle.po_symbols.proofs.Contained.{contains_none, contains_cases, contains_head, contains_tail}
 use Rattle.po_symbols.proofs.LeastPairs.{Rises, TwoIn, two_least, Climbs, ClashIn, clash_least, pair_along}
 
 -- ---- bodies

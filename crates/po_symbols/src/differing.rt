@@ -1,5 +1,6 @@
 ghost use Rattle.std.specs.Prelude.{◌≡◌};
-ghost use Rattle.po_symbols.specs.Differing.{follows_bracket, is_sizeless as sizeless, differ as types_differ};
+ghost use Rattle.po_symbols.specs.Differing.{follows_bracket};
+ghost use Rattle.po_symbols.specs.Differing as differing;
 
 use po_base::Text;
 
@@ -19,7 +20,7 @@ fn ends_behind_bracket(text: &[u8], item: &[u8]) -> bool
 
 /// Whether the first type is an array without a size, and the second one is that with something in the size's place.
 fn is_sizeless(first: &[u8], second: &[u8]) -> bool
-    ensures { result ≡ sizeless first.now second.now }
+    ensures { result ≡ differing.is_sizeless first.now second.now }
 {
     if !first.starts_with(b"[]") {
         return false;
@@ -29,7 +30,7 @@ fn is_sizeless(first: &[u8], second: &[u8]) -> bool
 
 /// Whether two files that declare a name with these types clash. In time linear in the spellings.
 pub(crate) fn differ(first: &Text, second: &Text) -> bool
-    ensures { result ≡ types_differ first.now second.now }
+    ensures { result ≡ differing.differ first.now second.now }
 {
     let first = first.bytes();
     let second = second.bytes();

@@ -4,7 +4,12 @@ pub mod Gathered
 pub mod Counts
 pub mod Waiting
 pub mod Behind
+pub mod Ascending
+pub mod Scopes
+pub mod SameNames
 pub mod Weights
 pub mod Thin
-pub mod Moves
+pub mod Squares
+pub mod Steps
+pub mod InitSteps
 pub mod Threaded

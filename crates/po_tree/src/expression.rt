@@ -1,7 +1,8 @@
 ghost use Rattle.std.specs.Prelude.{◌≡◌};
 ghost use Rattle.po_tree.specs.declared.expression.Member.{out-Member};
+ghost use Rattle.po_tree.specs.declared.expression.Param.{out-Param};
 
-use crate::letting::let_go_of_all;
+use crate::dropping::{drop_declarator, drop_specifiers};
 use po_base::{Boxed, List, Op, Text};
 
 /// An expression (C99 6.5). Parentheses are nodes.
@@ -106,12 +107,12 @@ impl Member {
     }
 }
 
-/// The bodies inside are let go in a loop, so that the stack doesn't grow with their nesting.
+/// What is nested inside is dropped in a loop, so that the stack doesn't grow with the nesting.
 impl Drop for Member {
-    #[cycle(letting)]
+    #[cycle(dropping)]
     fn drop(self) {
         let Member { specs, declarators } = self;
-        let_go_of_all(specs);
+        drop_specifiers(specs);
         drop(declarators);
     }
 }
@@ -139,8 +140,27 @@ pub enum Suffix {
 
 /// A parameter (C99 6.7.5).
 #[cycle(tree)]
-#[derive(Drop)]
 pub struct Param {
     pub specs: List<Specifier>,
     pub declarator: Declarator,
+}
+
+impl Param {
+    /// The two parts, moved out.
+    pub fn into_parts(self) -> (List<Specifier>, Declarator)
+        ensures { (result.0 ≡ (out-Param self).specs) × (result.1 ≡ (out-Param self).declarator) }
+    {
+        let Param { specs, declarator } = self;
+        (specs, declarator)
+    }
+}
+
+/// What is nested inside is dropped in a loop, so that the stack doesn't grow with the nesting.
+impl Drop for Param {
+    #[cycle(dropping)]
+    fn drop(self) {
+        let Param { specs, declarator } = self;
+        drop_specifiers(specs);
+        drop_declarator(declarator);
+    }
 }

@@ -1,3 +1,4 @@
+pub mod Forms
 pub mod Scopes
 pub mod Operands
 pub mod Constants
@@ -7,3 +8,4 @@ pub mod Initialisers
 pub mod Declarations
 pub mod Statements
 pub mod Environments
+pub mod Laws

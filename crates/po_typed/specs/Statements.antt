@@ -3,16 +3,16 @@ use Rattle.std.specs.Prelude.{ℕ, ◌≡◌, ◌≢◌, Bool, true, false, List
 use Rattle.std.specs.List.{list_any}
 use Rattle.std.specs.Str.{bytes_eq}
 use Rattle.po_arith.specs.declared.int_type.IntType.{IntType}
-use Rattle.po_tree.specs.declared.expression.Exp.{Exp}
+use Rattle.po_tree.specs.declared.expression.Exp.{Exp, out-Exp}
 use Rattle.po_tree.specs.declared.expression.Specifier.{Specifier}
-use Rattle.po_tree.specs.declared.expression.Suffix.TheVariants as su
+use Rattle.po_tree.specs.declared.expression.Suffix.{out-Suffix}
+use Rattle.po_tree.specs.declared.expression.Exp.TheOpen.{Suffix-F}
 use Rattle.po_tree.specs.declared.expression.Declarator.{Declarator}
 use Rattle.po_tree.specs.declared.expression.Param.{Param, out-Param}
-use Rattle.po_tree.specs.declared.declaration.Init.{Init}
+use Rattle.po_tree.specs.declared.declaration.Init.{Init, out-Init}
 use Rattle.po_tree.specs.declared.declaration.Decl.{Decl}
 use Rattle.po_tree.specs.declared.statement.First.TheVariants as f
 use Rattle.po_tree.specs.declared.statement.Stmt.{Stmt, fold-Stmt, out-Stmt}
-use Rattle.po_tree.specs.declared.statement.Stmt.TheVariants as st
 use Rattle.po_tree.specs.declared.statement.Stmt.TheOpen.{Stmt-F}
 use Rattle.po_tree.specs.declared.function.FunTree.{FunTree}
 use Rattle.po_tree.specs.Statements.{AllDiffer}
@@ -83,28 +83,26 @@ pub data StoredAs : Option (List ℕ) → Storage → Place → Type 0 where
   stored_static : StoredAs (Some (codes "static")) in_static static_place
 
 -- stars and arrays of a declarator in a block, where no tag is declared
-pub data ShapesHere (ctx : Context) (base : CType) : Declarator → List ℕ → CType → List Pair → Type 0 where
-  plain_here : (stars : List (List (List ℕ))) (name : List ℕ) → CanBeStarred stars base →
-      ShapesHere ctx base (record { stars = stars; name = Some name; suffix = su.Plain }) name (starred base stars) []
-  array_here : (stars : List (List (List ℕ))) (name : List ℕ) (sizes : List (Option Exp)) (t : CType) (ps : List Pair) → CanBeStarred stars base →
-      IsArray ctx (starred base stars) sizes t ps → ShapesHere ctx base (record { stars = stars; name = Some name; suffix = su.Arrays sizes }) name t ps
+pub data ShapesHere (ctx : Context) (base : CType) : Declarator → CType → List Pair → Type 0 where
+  plain_here : {d : Declarator} → out-Suffix d.suffix ≡ Suffix-F.Plain → CanBeStarred d.stars base → ShapesHere ctx base d (starred base d.stars) []
+  array_here : {d : Declarator} {sizes : List (Option Exp)} {t : CType} {ps : List Pair} → out-Suffix d.suffix ≡ Suffix-F.Arrays sizes → CanBeStarred d.stars base →
+      IsArray ctx (starred base d.stars) sizes t ps → ShapesHere ctx base d t ps
 
 -- Locals ctx storage place base parts ctx' ps: objects of a block (6.7); the word is in force in its own initialiser
 pub data Locals : Context → Storage → Place → CType → List (Declarator × Option Init) → Context → List Pair → Type 0 where
-  no_more_locals : (ctx : Context) (storage : Storage) (place : Place) (base : CType) → Locals ctx storage place base [] ctx []
-  plain_local : (ctx ctx' : Context) (storage : Storage) (place : Place) (base t : CType) (d : Declarator) (name : List ℕ) (parts : List (Declarator × Option Init)) (ps qs : List Pair) →
-      ShapesHere ctx base d name t ps → IsNew ctx name → IsComplete ctx t → Locals (with_word name (local storage t) ctx) storage place base parts ctx' qs →
-      Locals ctx storage place base ((d, None) ∷ parts) ctx' (ps ++ qs)
-  initialised_local : (ctx ctx' : Context) (storage : Storage) (place : Place) (base t u : CType) (d : Declarator) (name : List ℕ) (x : Init) (parts : List (Declarator × Option Init)) (ps qs rs : List Pair) →
-      ShapesHere ctx base d name t ps → IsNew ctx name → Initialises (with_word name (local storage t) ctx) place t x u qs → IsComplete ctx u →
-      Locals (with_word name (local storage u) ctx) storage place base parts ctx' rs → Locals ctx storage place base ((d, Some x) ∷ parts) ctx' (ps ++ (qs ++ rs))
+  no_more_locals : {ctx : Context} {storage : Storage} {place : Place} {base : CType} → Locals ctx storage place base [] ctx []
+  plain_local : {ctx ctx' : Context} {storage : Storage} {place : Place} {base t : CType} {part : Declarator × Option Init} {name : List ℕ} {parts : List (Declarator × Option Init)} {ps qs : List Pair} →
+      part.1 ≡ None → part.0.name ≡ Some name → ShapesHere ctx base part.0 t ps → IsNew ctx name → IsComplete ctx t →
+      Locals (with_word name (local storage t) ctx) storage place base parts ctx' qs → Locals ctx storage place base (part ∷ parts) ctx' (ps ++ qs)
+  initialised_local : {ctx ctx' : Context} {storage : Storage} {place : Place} {base t u : CType} {part : Declarator × Option Init} {name : List ℕ} {x : Init} {parts : List (Declarator × Option Init)} {ps qs rs : List Pair} →
+      part.1 ≡ Some x → part.0.name ≡ Some name → ShapesHere ctx base part.0 t ps → IsNew ctx name → Initialises (with_word name (local storage t) ctx) place t (out-Init x) u qs →
+      IsComplete ctx u → Locals (with_word name (local storage u) ctx) storage place base parts ctx' rs → Locals ctx storage place base (part ∷ parts) ctx' (ps ++ (qs ++ rs))
 
 -- a declaration in a block: objects alone, without a typedef, a tag, a function or `extern`
 pub data DeclaredHere (allowed : List (List ℕ)) : Context → Decl → Context → List Pair → Type 0 where
-  declared_here : (ctx ctx' : Context) (specs : List Specifier) (class : Option (List ℕ)) (storage : Storage) (place : Place) (base : CType)
-      (part : Declarator × Option Init) (parts : List (Declarator × Option Init)) (ps : List Pair) → OnlyWords allowed specs → HasStorage specs class → StoredAs class storage place →
-      IsBase ctx specs base → RestrictFits specs base → Locals ctx storage place base (part ∷ parts) ctx' ps →
-      DeclaredHere allowed ctx (record { specs = specs; parts = part ∷ parts }) ctx' ps
+  declared_here : {ctx ctx' : Context} {d : Decl} {class : Option (List ℕ)} {storage : Storage} {place : Place} {base : CType} {ps : List Pair} → d.parts ≢ [] →
+      OnlyWords allowed d.specs → HasStorage d.specs class → StoredAs class storage place → IsBase ctx d.specs base → RestrictFits d.specs base →
+      Locals ctx storage place base d.parts ctx' ps → DeclaredHere allowed ctx d ctx' ps
 
 abbrev pub block_classes : List (List ℕ)
 block_classes = codes "auto" ∷ codes "register" ∷ codes "static" ∷ []
@@ -126,11 +124,11 @@ Controls ctx x ps = (t : CType) × (a : CType) × Tested t a × Operand ctx x t 
 
 pub data MaybeUnused (ctx : Context) : Option Exp → List Pair → Type 0 where
   nothing_unused : MaybeUnused ctx None []
-  something_unused : (x : Exp) (ps : List Pair) → IsUnused ctx x ps → MaybeUnused ctx (Some x) ps
+  something_unused : {x : Exp} {ps : List Pair} → IsUnused ctx x ps → MaybeUnused ctx (Some x) ps
 
 pub data MaybeControls (ctx : Context) : Option Exp → List Pair → Type 0 where
   nothing_controls : MaybeControls ctx None []
-  something_controls : (x : Exp) (ps : List Pair) → Controls ctx x ps → MaybeControls ctx (Some x) ps
+  something_controls : {x : Exp} {ps : List Pair} → Controls ctx x ps → MaybeControls ctx (Some x) ps
 
 -- no case and no default stands twice (6.8.4.2p3)
 abbrev pub NoneTwice : List (Option ℤ) → Type 0
@@ -145,65 +143,65 @@ abbrev pub IsNoBlock : Stmt → Type 0
 IsNoBlock s = no_block_layer (out-Stmt s)
 
 mutual
-  -- Runs ctx w targets s marks ps: the statement has these pairs; a goto in it may name these targets; `marks` are the cases, with their values,
+  -- Runs ctx w targets (out-Stmt s) marks ps: the statement s has these pairs; a goto in it may name these targets; `marks` are the cases, with their values,
   -- and the defaults that stand directly in the block of the switch around it
-  pub data Runs : Context → Around → List (List ℕ) → Stmt → List (Option ℤ) → List Pair → Type 0 where
+  pub data Runs : Context → Around → List (List ℕ) → Stmt-F Stmt → List (Option ℤ) → List Pair → Type 0 where
     -- 6.8.2, 6.8.3
-    block : (ctx : Context) (w : Around) (targets : List (List ℕ)) (xs : List Stmt) (ps : List Pair) →
-        Items (in_new_block ctx) (aside w) (flat_map own_labels xs ++ targets) [] xs [] ps → Runs ctx w targets (st.Block xs) [] ps
-    expression : (ctx : Context) (w : Around) (targets : List (List ℕ)) (x : Exp) (ps : List Pair) → IsUnused ctx x ps → Runs ctx w targets (st.ExpS x) [] ps
-    empty : (ctx : Context) (w : Around) (targets : List (List ℕ)) → Runs ctx w targets st.Empty [] []
+    block : {ctx : Context} {w : Around} {targets : List (List ℕ)} {xs : List Stmt} {ps : List Pair} →
+        Items (in_new_block ctx) (aside w) (flat_map own_labels xs ++ targets) [] xs [] ps → Runs ctx w targets (Stmt-F.Block xs) [] ps
+    expression : {ctx : Context} {w : Around} {targets : List (List ℕ)} {x : Exp} {ps : List Pair} → IsUnused ctx x ps → Runs ctx w targets (Stmt-F.ExpS x) [] ps
+    empty : {ctx : Context} {w : Around} {targets : List (List ℕ)} → Runs ctx w targets Stmt-F.Empty [] []
     -- 6.8.4.1
-    if_alone : (ctx : Context) (w : Around) (targets : List (List ℕ)) (x : Exp) (s : Stmt) (ps qs : List Pair) → Controls ctx x ps → Runs ctx (aside w) targets s [] qs →
-        Runs ctx w targets (st.If x s None) [] (ps ++ qs)
-    if_else : (ctx : Context) (w : Around) (targets : List (List ℕ)) (x : Exp) (s t : Stmt) (ps qs rs : List Pair) → Controls ctx x ps → Runs ctx (aside w) targets s [] qs →
-        Runs ctx (aside w) targets t [] rs → Runs ctx w targets (st.If x s (Some t)) [] (ps ++ (qs ++ rs))
+    if_alone : {ctx : Context} {w : Around} {targets : List (List ℕ)} {x : Exp} {s : Stmt} {ps qs : List Pair} → Controls ctx x ps → Runs ctx (aside w) targets (out-Stmt s) [] qs →
+        Runs ctx w targets (Stmt-F.If x s None) [] (ps ++ qs)
+    if_else : {ctx : Context} {w : Around} {targets : List (List ℕ)} {x : Exp} {s t : Stmt} {ps qs rs : List Pair} → Controls ctx x ps → Runs ctx (aside w) targets (out-Stmt s) [] qs →
+        Runs ctx (aside w) targets (out-Stmt t) [] rs → Runs ctx w targets (Stmt-F.If x s (Some t)) [] (ps ++ (qs ++ rs))
     -- 6.8.4.2: a switch whose cases stand directly in its block, or one without cases
-    switch_block : (ctx : Context) (w : Around) (targets : List (List ℕ)) (x : Exp) (t : IntType) (xs : List Stmt) (marks : List (Option ℤ)) (ps qs : List Pair) →
+    switch_block : {ctx : Context} {w : Around} {targets : List (List ℕ)} {x : Exp} (t : IntType) {s : Stmt} {xs : List Stmt} {marks : List (Option ℤ)} {ps qs : List Pair} → out-Stmt s ≡ Stmt-F.Block xs →
         Operand ctx x (c.Int t) (c.Int (promoted t)) ps → Items (in_new_block ctx) (in_switch (Some (promoted t)) w) (flat_map own_labels xs ++ targets) [] xs marks qs →
-        NoneTwice marks → Runs ctx w targets (st.Switch x (st.Block xs)) [] (ps ++ qs)
-    switch_other : (ctx : Context) (w : Around) (targets : List (List ℕ)) (x : Exp) (t : IntType) (s : Stmt) (ps qs : List Pair) → IsNoBlock s →
-        Operand ctx x (c.Int t) (c.Int (promoted t)) ps → Runs ctx (in_switch None w) targets s [] qs → Runs ctx w targets (st.Switch x s) [] (ps ++ qs)
+        NoneTwice marks → Runs ctx w targets (Stmt-F.Switch x s) [] (ps ++ qs)
+    switch_other : {ctx : Context} {w : Around} {targets : List (List ℕ)} {x : Exp} (t : IntType) {s : Stmt} {ps qs : List Pair} → IsNoBlock s →
+        Operand ctx x (c.Int t) (c.Int (promoted t)) ps → Runs ctx (in_switch None w) targets (out-Stmt s) [] qs → Runs ctx w targets (Stmt-F.Switch x s) [] (ps ++ qs)
     -- 6.8.1, 6.8.4.2p3, p5
-    case : (ctx : Context) (w : Around) (targets : List (List ℕ)) (x : Exp) (t k : IntType) (v n : ℤ) (s : Stmt) (marks : List (Option ℤ)) (ps qs : List Pair) →
-        w.cases ≡ Some t → Types ctx x (c.Int k) (c.Int t) ps → Constant ctx x k v → Becomes t v n → Runs ctx w targets s marks qs →
-        Runs ctx w targets (st.Case x s) (Some n ∷ marks) (ps ++ qs)
-    default : (ctx : Context) (w : Around) (targets : List (List ℕ)) (s : Stmt) (marks : List (Option ℤ)) (ps : List Pair) → IsSome w.cases → Runs ctx w targets s marks ps →
-        Runs ctx w targets (st.Default s) (None ∷ marks) ps
-    label : (ctx : Context) (w : Around) (targets : List (List ℕ)) (name : List ℕ) (s : Stmt) (marks : List (Option ℤ)) (ps : List Pair) → Runs ctx w targets s marks ps →
-        Runs ctx w targets (st.Label name s) marks ps
+    case : {ctx : Context} {w : Around} {targets : List (List ℕ)} {x : Exp} {t k : IntType} {v n : ℤ} {s : Stmt} {marks : List (Option ℤ)} {ps qs : List Pair} →
+        w.cases ≡ Some t → Types ctx (out-Exp x) (c.Int k) (c.Int t) ps → Constant ctx (out-Exp x) k v → Becomes t v n → Runs ctx w targets (out-Stmt s) marks qs →
+        Runs ctx w targets (Stmt-F.Case x s) (Some n ∷ marks) (ps ++ qs)
+    default : {ctx : Context} {w : Around} {targets : List (List ℕ)} {s : Stmt} {marks : List (Option ℤ)} {ps : List Pair} → IsSome w.cases → Runs ctx w targets (out-Stmt s) marks ps →
+        Runs ctx w targets (Stmt-F.Default s) (None ∷ marks) ps
+    label : {ctx : Context} {w : Around} {targets : List (List ℕ)} {name : List ℕ} {s : Stmt} {marks : List (Option ℤ)} {ps : List Pair} → Runs ctx w targets (out-Stmt s) marks ps →
+        Runs ctx w targets (Stmt-F.Label name s) marks ps
     -- 6.8.5
-    while : (ctx : Context) (w : Around) (targets : List (List ℕ)) (x : Exp) (s : Stmt) (ps qs : List Pair) → Controls ctx x ps → Runs ctx (in_loop w) targets s [] qs →
-        Runs ctx w targets (st.While x s) [] (ps ++ qs)
-    do_while : (ctx : Context) (w : Around) (targets : List (List ℕ)) (x : Exp) (s : Stmt) (ps qs : List Pair) → Runs ctx (in_loop w) targets s [] ps → Controls ctx x qs →
-        Runs ctx w targets (st.Do s x) [] (ps ++ qs)
-    for_nothing : (ctx : Context) (w : Around) (targets : List (List ℕ)) (test step : Option Exp) (s : Stmt) (ps qs rs : List Pair) → MaybeControls ctx test ps → MaybeUnused ctx step qs →
-        Runs ctx (in_loop w) targets s [] rs → Runs ctx w targets (st.For f.Nothing test step s) [] (ps ++ (qs ++ rs))
-    for_value : (ctx : Context) (w : Around) (targets : List (List ℕ)) (x : Exp) (test step : Option Exp) (s : Stmt) (os ps qs rs : List Pair) → IsUnused ctx x os →
-        MaybeControls ctx test ps → MaybeUnused ctx step qs → Runs ctx (in_loop w) targets s [] rs →
-        Runs ctx w targets (st.For (f.Value x) test step s) [] (os ++ (ps ++ (qs ++ rs)))
-    for_variables : (ctx inner : Context) (w : Around) (targets : List (List ℕ)) (d : Decl) (test step : Option Exp) (s : Stmt) (os ps qs rs : List Pair) →
+    while : {ctx : Context} {w : Around} {targets : List (List ℕ)} {x : Exp} {s : Stmt} {ps qs : List Pair} → Controls ctx x ps → Runs ctx (in_loop w) targets (out-Stmt s) [] qs →
+        Runs ctx w targets (Stmt-F.While x s) [] (ps ++ qs)
+    do_while : {ctx : Context} {w : Around} {targets : List (List ℕ)} {x : Exp} {s : Stmt} {ps qs : List Pair} → Runs ctx (in_loop w) targets (out-Stmt s) [] ps → Controls ctx x qs →
+        Runs ctx w targets (Stmt-F.Do s x) [] (ps ++ qs)
+    for_nothing : {ctx : Context} {w : Around} {targets : List (List ℕ)} {test step : Option Exp} {s : Stmt} {ps qs rs : List Pair} → MaybeControls ctx test ps → MaybeUnused ctx step qs →
+        Runs ctx (in_loop w) targets (out-Stmt s) [] rs → Runs ctx w targets (Stmt-F.For f.Nothing test step s) [] (ps ++ (qs ++ rs))
+    for_value : {ctx : Context} {w : Around} {targets : List (List ℕ)} {x : Exp} {test step : Option Exp} {s : Stmt} {os ps qs rs : List Pair} → IsUnused ctx x os →
+        MaybeControls ctx test ps → MaybeUnused ctx step qs → Runs ctx (in_loop w) targets (out-Stmt s) [] rs →
+        Runs ctx w targets (Stmt-F.For (f.Value x) test step s) [] (os ++ (ps ++ (qs ++ rs)))
+    for_variables : {ctx inner : Context} {w : Around} {targets : List (List ℕ)} {d : Decl} {test step : Option Exp} {s : Stmt} {os ps qs rs : List Pair} →
         DeclaredHere loop_classes (in_new_block ctx) d inner os → MaybeControls inner test ps → MaybeUnused inner step qs →
-        Runs inner (in_loop w) (own_labels s ++ targets) s [] rs → Runs ctx w targets (st.For (f.Variables d) test step s) [] (os ++ (ps ++ (qs ++ rs)))
+        Runs inner (in_loop w) (own_labels s ++ targets) (out-Stmt s) [] rs → Runs ctx w targets (Stmt-F.For (f.Variables d) test step s) [] (os ++ (ps ++ (qs ++ rs)))
     -- 6.8.6
-    goto : (ctx : Context) (w : Around) (targets : List (List ℕ)) (name : List ℕ) → Contains targets name → Runs ctx w targets (st.Goto name) [] []
-    continue : (ctx : Context) (w : Around) (targets : List (List ℕ)) → w.continues ≡ true → Runs ctx w targets st.Continue [] []
-    break : (ctx : Context) (w : Around) (targets : List (List ℕ)) → w.breaks ≡ true → Runs ctx w targets st.Break [] []
-    return_nothing : (ctx : Context) (w : Around) (targets : List (List ℕ)) → w.result ≡ c.Void → Runs ctx w targets (st.Return None) [] []
-    return_value : (ctx : Context) (w : Around) (targets : List (List ℕ)) (x : Exp) (ps : List Pair) → w.result ≢ c.Void → Assigned ctx x w.result ps →
-        Runs ctx w targets (st.Return (Some x)) [] ps
+    goto : {ctx : Context} {w : Around} {targets : List (List ℕ)} {name : List ℕ} → Contains targets name → Runs ctx w targets (Stmt-F.Goto name) [] []
+    continue : {ctx : Context} {w : Around} {targets : List (List ℕ)} → w.continues ≡ true → Runs ctx w targets Stmt-F.Continue [] []
+    break : {ctx : Context} {w : Around} {targets : List (List ℕ)} → w.breaks ≡ true → Runs ctx w targets Stmt-F.Break [] []
+    return_nothing : {ctx : Context} {w : Around} {targets : List (List ℕ)} → w.result ≡ c.Void → Runs ctx w targets (Stmt-F.Return None) [] []
+    return_value : {ctx : Context} {w : Around} {targets : List (List ℕ)} {x : Exp} {ps : List Pair} → w.result ≢ c.Void → Assigned ctx x w.result ps →
+        Runs ctx w targets (Stmt-F.Return (Some x)) [] ps
 
   -- Items ctx w targets behind xs marks ps: the items of a block, of which those that went before have the labels `behind`. A goto behind a
   -- declaration that has no initialiser doesn't name a label before it.
   pub data Items : Context → Around → List (List ℕ) → List (List ℕ) → List Stmt → List (Option ℤ) → List Pair → Type 0 where
-    no_more_items : (ctx : Context) (w : Around) (targets behind : List (List ℕ)) → Items ctx w targets behind [] [] []
-    statement : (ctx : Context) (w : Around) (targets behind : List (List ℕ)) (s : Stmt) (xs : List Stmt) (marks others : List (Option ℤ)) (ps qs : List Pair) →
-        Runs ctx w targets s marks ps → Items ctx w targets (own_labels s ++ behind) xs others qs → Items ctx w targets behind (s ∷ xs) (marks ++ others) (ps ++ qs)
-    declaration : (ctx ctx' : Context) (w : Around) (targets behind : List (List ℕ)) (d : Decl) (xs : List Stmt) (marks : List (Option ℤ)) (ps qs : List Pair) →
-        DeclaredHere block_classes ctx d ctx' ps → AllInitialised d → Items ctx' w targets behind xs marks qs → Items ctx w targets behind (st.Declare d ∷ xs) marks (ps ++ qs)
-    declaration_without : (ctx ctx' : Context) (w : Around) (targets behind : List (List ℕ)) (d : Decl) (xs : List Stmt) (marks : List (Option ℤ)) (ps qs : List Pair) →
-        DeclaredHere block_classes ctx d ctx' ps → (AllInitialised d → ⊥) → Items ctx' w (apart_from behind targets) behind xs marks qs →
-        Items ctx w targets behind (st.Declare d ∷ xs) marks (ps ++ qs)
+    no_more_items : {ctx : Context} {w : Around} {targets behind : List (List ℕ)} → Items ctx w targets behind [] [] []
+    statement : {ctx : Context} {w : Around} {targets behind : List (List ℕ)} {s : Stmt} {xs : List Stmt} {marks others : List (Option ℤ)} {ps qs : List Pair} →
+        Runs ctx w targets (out-Stmt s) marks ps → Items ctx w targets (own_labels s ++ behind) xs others qs → Items ctx w targets behind (s ∷ xs) (marks ++ others) (ps ++ qs)
+    declaration : {ctx ctx' : Context} {w : Around} {targets behind : List (List ℕ)} {s : Stmt} {d : Decl} {xs : List Stmt} {marks : List (Option ℤ)} {ps qs : List Pair} →
+        out-Stmt s ≡ Stmt-F.Declare d → DeclaredHere block_classes ctx d ctx' ps → AllInitialised d → Items ctx' w targets behind xs marks qs → Items ctx w targets behind (s ∷ xs) marks (ps ++ qs)
+    declaration_without : {ctx ctx' : Context} {w : Around} {targets behind : List (List ℕ)} {s : Stmt} {d : Decl} {xs : List Stmt} {marks : List (Option ℤ)} {ps qs : List Pair} →
+        out-Stmt s ≡ Stmt-F.Declare d → DeclaredHere block_classes ctx d ctx' ps → (AllInitialised d → ⊥) → Items ctx' w (apart_from behind targets) behind xs marks qs →
+        Items ctx w targets behind (s ∷ xs) marks (ps ++ qs)
 
 -- the parameters of a definition have names
 abbrev pub AllNamed : List Param → Type 0
@@ -212,8 +210,8 @@ AllNamed params = All (λ x. IsSome (out-Param x).declarator.name) params
 -- what a definition takes: parameters with names, `(void)`, or `()` (6.9.1p5, p6)
 pub data Receives (ctx : Context) : List Param → List CType → Context → List Pair → Type 0 where
   receives_nothing : Receives ctx [] [] (in_new_block ctx) []
-  receives_void : (params : List Param) → IsVoidAlone ctx params → Receives ctx params [] (in_new_block ctx) []
-  receives_params : (params : List Param) (ts : List CType) (inner : Context) (ps : List Pair) → params ≢ [] → AllNamed params → Listed (in_new_block ctx) params ts inner ps →
+  receives_void : {params : List Param} → IsVoidAlone ctx params → Receives ctx params [] (in_new_block ctx) []
+  receives_params : {params : List Param} {ts : List CType} {inner : Context} {ps : List Pair} → params ≢ [] → AllNamed params → Listed (in_new_block ctx) params ts inner ps →
       Receives ctx params ts inner ps
 
 -- the function's name, for the first time or again with the same type (6.7p4, 6.9.1)
@@ -234,16 +232,9 @@ around_body result = record { result = result; breaks = false; continues = false
 
 -- Defines file g file' ps: the definition has these pairs, in the order of its expressions, and its head leaves the file so
 pub data Defines (file : File) : FunTree → File → List Pair → Type 0 where
-  defines : (mid inner outer : Context) (specs : List Specifier) (class : Option (List ℕ)) (stars : List (List (List ℕ))) (name : List ℕ) (params : List Param) (body : List Stmt)
-      (marks : List (ℕ × ℕ)) (names : List (List ℕ)) (base : CType) (const : Bool) (ts : List CType) (ps qs rs : List Pair) →
-      OnlyWords (codes "extern" ∷ codes "static" ∷ codes "inline" ∷ []) specs → HasStorage specs class → Specified file.context specs base const mid ps →
-      CanBeStarred stars base → IsResult (starred base stars) → Receives mid params ts inner qs →
-      NamesFunction (back_in mid inner) name (c.Fun (starred base stars) ts false) outer →
-      AllDiffer (flat_map labels body) → Items (atop inner outer) (around_body (starred base stars)) (flat_map own_labels body) [] body [] rs →
-      Defines file (record {
-        specs = specs;
-        declarator = record { stars = stars; name = Some name; suffix = su.Params params false };
-        body = body;
-        marks = marks;
-        names = names;
-      }) (with_context file outer) (ps ++ (qs ++ rs))
+  defines : {mid inner outer : Context} {g : FunTree} {class : Option (List ℕ)} {name : List ℕ} {params : List Param} {base : CType} {const : Bool} {ts : List CType} {ps qs rs : List Pair} →
+      g.declarator.name ≡ Some name → out-Suffix g.declarator.suffix ≡ Suffix-F.Params params false → OnlyWords (codes "extern" ∷ codes "static" ∷ codes "inline" ∷ []) g.specs →
+      HasStorage g.specs class → Specified file.context g.specs base const mid ps → CanBeStarred g.declarator.stars base → IsResult (starred base g.declarator.stars) →
+      Receives mid params ts inner qs → NamesFunction (back_in mid inner) name (c.Fun (starred base g.declarator.stars) ts false) outer → AllDiffer (flat_map labels g.body) →
+      Items (atop inner outer) (around_body (starred base g.declarator.stars)) (flat_map own_labels g.body) [] g.body [] rs →
+      Defines file g (with_context file outer) (ps ++ (qs ++ rs))

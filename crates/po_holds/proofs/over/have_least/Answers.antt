@@ -2,12 +2,12 @@ use Rattle.std.proofs.Common.{rules, ◌≡◌, ◌-◌, ◌↔◌, arith, subst
 use Rattle.std.specs.Prelude.{pos, negsuc, neg_ℤ, ◌+ℤ◌, ◌*ℤ◌, ◌≤ℤ◌, ◌<ℤ◌, not, IsTrue}
 use Rattle.std.specs.Int.{w128}
 use Rattle.std.proofs.lemmas.Int.{ints}
+use Rattle.po_lists.proofs.Integers.{times_neg}
 use Rattle.po_memory.specs.Blocks.{half}
 use Rattle.po_holds.specs.Choosing.{least, greatest}
 use Rattle.po_holds.specs.Over.{IsPower}
 use Rattle.po_holds.proofs.Telling.{first_met, then_tells}
 use Rattle.po_holds.proofs.Sums.{tells_not}
-use Rattle.po_holds.proofs.Products.{times_neg}
 use Rattle.po_holds.proofs.over.have_least.Goals as goal
 
 pub returns-then-is_negative : goal.returns-then-is_negative

@@ -1,6 +1,6 @@
 use Rattle.std.proofs.Common.{ap, map, ◌∙◌}
+use Rattle.po_lists.proofs.Results.{if_ok-map}
 use Rattle.po_ir.specs.Reaching.{effects_in, frees_here, writes_here, does}
-use Rattle.po_ir.proofs.General.{if_ok-map}
 use Rattle.po_ir.proofs.Paired.{paired}
 use Rattle.po_ir.proofs.effects.function_effects.Goals as goal
 

@@ -1,6 +1,6 @@
 use Rattle.std.proofs.Common.{subst, sym}
+use Rattle.po_lists.proofs.Results.{if_ok-map}
 use Rattle.po_ir.specs.Callers.{AreCallers}
-use Rattle.po_ir.proofs.General.{if_ok-map}
 use Rattle.po_ir.proofs.Reaching.{reaching}
 use Rattle.po_ir.proofs.effects.reaching.Goals as goal
 

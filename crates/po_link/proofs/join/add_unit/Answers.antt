@@ -1,7 +1,7 @@
 use Rattle.std.proofs.Common.{◌++◌, ◌∷◌, [], length, ap, ◌∙◌}
 use Rattle.std.specs.Prelude.{map, flat_map}
+use Rattle.po_lists.proofs.Results.{on_ok-map}
 use Rattle.po_link.specs.Joined.{naming_of, joined_function, opaque_of}
-use Rattle.po_ir.proofs.General.{on_ok-map}
 use Rattle.po_link.proofs.Joining.{parts_more, functions_before, files_before, scope_is}
 use Rattle.po_link.proofs.join.add_unit.Goals as goal
 

@@ -1,6 +1,6 @@
 use Rattle.std.proofs.Common.{sym, ap, ◌∙◌}
 use Rattle.std.specs.Prelude.{option_copied}
-use Rattle.po_ir.proofs.General.{on_ok-map}
+use Rattle.po_lists.proofs.Results.{on_ok-map}
 use Rattle.po_link.proofs.OneMore.{local_more, known_more, first_more}
 use Rattle.po_link.proofs.objects.add_global.Goals as goal
 

@@ -1,6 +1,6 @@
 use Rattle.std.proofs.Common.{◌∙◌}
+use Rattle.po_lists.proofs.Results.{on_ok-map}
 use Rattle.po_link.specs.Scoped.{seen_by}
-use Rattle.po_ir.proofs.General.{on_ok-map}
 use Rattle.po_link.proofs.Noted.{found_more}
 use Rattle.po_link.proofs.scope.note_used.Goals as goal
 

@@ -1,4 +1,4 @@
-use Rattle.po_ir.proofs.General.{on_ok-map}
+use Rattle.po_lists.proofs.Results.{on_ok-map}
 use Rattle.po_link.proofs.Noted.{seen_more}
 use Rattle.po_link.proofs.seen.note_function.Goals as goal
 

@@ -1,6 +1,6 @@
 use Rattle.std.proofs.Common.{refl}
+use Rattle.po_lists.proofs.Results.{on_ok-map}
 use Rattle.po_link.specs.Noted.{effects_of_lib}
-use Rattle.po_ir.proofs.General.{on_ok-map}
 use Rattle.po_link.proofs.Noted.{found_more}
 use Rattle.po_link.proofs.seen.note_lib.Goals as goal
 

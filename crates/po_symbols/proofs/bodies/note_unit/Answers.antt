@@ -1,4 +1,4 @@
-use Rattle.po_ir.proofs.General.{on_ok-map}
+use Rattle.po_lists.proofs.Results.{on_ok-map}
 use Rattle.po_symbols.proofs.Indexed.{unit_noted}
 use Rattle.po_symbols.proofs.bodies.note_unit.Goals as goal
 

@@ -1,4 +1,4 @@
-use Rattle.po_ir.proofs.General.{on_ok-map}
+use Rattle.po_lists.proofs.Results.{on_ok-map}
 use Rattle.po_symbols.proofs.Named.{noted_name}
 use Rattle.po_symbols.proofs.names.note_name.Goals as goal
 

@@ -1,0 +1,9 @@
+mod Among
+mod DigitRows
+mod Escapes
+mod Octal
+mod Quoted
+mod Results
+mod StringLiterals
+mod Suffixes
+mod ConstantTypes

@@ -1,0 +1,11 @@
+pub mod OneConstant
+pub mod OneWordType
+pub mod OneType
+pub mod OneBase
+pub mod OneForm
+pub mod OneExpression
+pub mod OneInitialiser
+pub mod OneSpecifier
+pub mod OneDeclaration
+pub mod OneStatement
+pub mod Examples

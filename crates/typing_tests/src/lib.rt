@@ -1,0 +1,11 @@
+//! Tests of typing: values of constants, results of operators (`po_constants`).
+#![tactic(auto)]
+
+#[cfg(test)]
+mod characters;
+#[cfg(test)]
+mod integers;
+#[cfg(test)]
+mod operators;
+#[cfg(test)]
+mod strings;
