@@ -1,22 +1,22 @@
-mod Places
-mod First
-mod Entry
-mod Frames
-mod States
-mod Results
-mod Plain
-mod Held
-mod Memory
-mod Parts
-mod Accesses
-mod Slots
-mod Calls
-mod ResultTypes
-mod Returns
-mod LibraryCalls
-mod Steps
-mod Having
-mod Deciding
-mod Choices
-mod Arithmetic
-mod Following
+pub mod Places
+pub mod First
+pub mod Entry
+pub mod Frames
+pub mod States
+pub mod Results
+pub mod Plain
+pub mod Held
+pub mod Memory
+pub mod Parts
+pub mod Accesses
+pub mod Slots
+pub mod Calls
+pub mod ResultTypes
+pub mod Returns
+pub mod LibraryCalls
+pub mod Steps
+pub mod Having
+pub mod Deciding
+pub mod Choices
+pub mod Arithmetic
+pub mod Following

@@ -1,15 +1,11 @@
 -- What is to be known of the C library.
-use Rattle.std.specs.Prelude.{List, Option}
+use Rattle.std.specs.Prelude.{List}
 use Rattle.po_base.specs.declared.numbers.LibNo.{LibNo}
 use Rattle.po_ir.specs.Whole.{Signature}
 use Rattle.po_memory.specs.declared.block.Block.{Block}
 use Rattle.po_memory.specs.declared.value.Value.{Value}
 use Rattle.po_gen.specs.Asks.{Required}
-
--- how a call of a library function ends: it returns, with a value or without one, or the run ends (7.20.4)
-pub data Ending : Type 0 where
-  returns : Option Value → Ending
-  stops : Ending
+use Rattle.po_meaning.specs.declared.state.Ending.{Ending}
 
 -- what a call of a library function on these values and blocks may end as, and with which blocks
 abbrev pub Outcomes : Type 1

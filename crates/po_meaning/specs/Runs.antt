@@ -9,7 +9,8 @@ use Rattle.po_core.specs.declared.report.Report.{Report}
 use Rattle.po_memory.specs.declared.block.Block.{Block}
 use Rattle.po_pred.specs.declared.pred.Pred.{Pred}
 use Rattle.po_pred.specs.declared.pred.Rule.{Rule}
-use Rattle.po_meaning.specs.Library.{Library, stops}
+use Rattle.po_meaning.specs.declared.state.Ending.TheVariants.{Stop}
+use Rattle.po_meaning.specs.Library.{Library}
 use Rattle.po_meaning.specs.States.{State, StandsAt}
 use Rattle.po_meaning.specs.Steps.{LibraryEnds, StepOf, IsLast}
 use Rattle.po_meaning.specs.Checks.{AllHold, FirstViolated}
@@ -29,7 +30,7 @@ Run l p r (suc n) s u = (v : State) × Step l p r s v × Run l p r n v u
 
 -- an instruction at which the run ends: a return for which no frame waits, and a library call that stops it (6.8.6.4, 7.20.4)
 abbrev pub IsEnd : Library → Instr → State → Type 0
-IsEnd l (Lib to lib args strings) s = (after : List Block) × LibraryEnds l lib args s stops after
+IsEnd l (Lib to lib args strings) s = (after : List Block) × LibraryEnds l lib args s Stop after
 IsEnd l i s = IsLast i s
 
 -- the run ends here: all obligations hold

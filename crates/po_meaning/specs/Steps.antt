@@ -18,7 +18,9 @@ use Rattle.po_memory.specs.declared.frame.Frame.{Frame}
 use Rattle.po_memory.specs.declared.value.Value.{Value}
 use Rattle.po_memory.specs.Accesses.{Kills}
 use Rattle.po_meaning.specs.Operands.{value_at, ArePassed, receive}
-use Rattle.po_meaning.specs.Library.{Library, Ending, returns}
+use Rattle.po_meaning.specs.declared.state.Ending.{Ending}
+use Rattle.po_meaning.specs.declared.state.Ending.TheVariants.{Next}
+use Rattle.po_meaning.specs.Library.{Library}
 use Rattle.po_meaning.specs.States.{State, StandsAt, start_frame}
 use Rattle.po_meaning.specs.Local.{Local}
 
@@ -71,7 +73,7 @@ pub record LibraryEnds (l : Library) (lib : LibNo) (args : List Opnd) (s : State
 -- and goes on
 pub record LibraryReturns (l : Library) (to : Option RegNo) (lib : LibNo) (args : List Opnd) (s u : State) : Type 0 where
   pub result : Option Value
-  pub ends : LibraryEnds l lib args s (returns result) u.memory
+  pub ends : LibraryEnds l lib args s (Next result) u.memory
   pub top : u.top ≡ receive to result s.top
   pub rest : u.rest ≡ s.rest
 

@@ -8,4 +8,4 @@ pub use laws::{
     entry_keeps_holds, first_violated_is_one, library_calls_pass, library_steps_stay, one_or_all,
     plain_steps_stay, states_follow, steps_stay, steps_violate_nothing,
 };
-pub use state::State;
+pub use state::{Ending, State};

@@ -1,1 +1,5 @@
 pub mod Supporting
+pub mod Checking
+pub mod Passing
+pub mod Outcomes
+pub mod Stepping

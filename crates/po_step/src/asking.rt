@@ -1,7 +1,8 @@
 ghost use Rattle.std.specs.Prelude.{◌≡◌, ◌++◌, length, IfOk, OnOk};
 ghost use Rattle.po_ir.specs.IntTypes.{AreTypesOfTarget};
 ghost use Rattle.po_meaning.specs.Checks.{asked_at, numbered as numbered_from, primaries as primaries_at};
-ghost use Rattle.po_step.specs.Supporting.{TakesAll};
+ghost use Rattle.po_ir.specs.Whole.{IsWhole};
+ghost use Rattle.po_step.specs.Supporting.{SupportsFit};
 
 use crate::supporting::supports;
 use po_base::{FunNo, List, Memory, NodeNo};
@@ -73,8 +74,8 @@ pub fn asked<L: Library>(
     f: FunNo,
     n: NodeNo,
 ) -> Result<List<(Obl<Pred>, Pred)>, Memory>
-    requires types { AreTypesOfTarget p.now }
-    requires supports { TakesAll p.now report.now.lines }
+    requires whole { (signatures : _) × IsWhole signatures p.now }
+    requires supports { SupportsFit p.now report.now.lines }
     ensures { IfOk result (λ list. list ≡ asked_at (L.meaning library.now) p.now report.now f n) }
 {
     let mut list = primaries(alloc, library, p, f, n)?;

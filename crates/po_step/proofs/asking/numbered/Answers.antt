@@ -1,5 +1,4 @@
-use Rattle.std.specs.Prelude.{◌≡◌, ◌<◌, length}
-use Rattle.std.proofs.Common.{◌∙◌, arith}
+use Rattle.std.proofs.Common.{◌∙◌}
 use Rattle.po_step.proofs.Numbering.{one_more}
 use Rattle.po_step.proofs.asking.numbered.Goals as goal
 

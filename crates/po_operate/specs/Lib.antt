@@ -1,0 +1,4 @@
+pub mod Finding
+pub mod Ready
+pub mod Values
+pub mod Copying
