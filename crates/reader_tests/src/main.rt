@@ -19,7 +19,7 @@ use po_base::Memory;
 use std::alloc::Global;
 use std::{io, str};
 use straight::{show_definitions, show_value};
-use trees::{show_dropping, show_scopes, show_tags};
+use trees::{show_dropping, show_tags};
 
 /// Writes the answer to a case of this kind.
 fn show(
@@ -42,7 +42,6 @@ fn show(
         [b'o'] => show_value(alloc, out, text),
         [b'b'] => show_dropping(alloc, out, times),
         [b'g'] => show_tags(alloc, out, times),
-        [b'n'] => show_scopes(alloc, out),
         _ => Ok(()),
     }
 }

@@ -1,6 +1,6 @@
 //! Trees that nest without a limit: they are dropped, and their names are gathered, with a stack of the usual size.
 
-use crate::writing::{put, put_named};
+use crate::writing::put_named;
 use po_base::{List, Memory, Text};
 use po_tree::{Decl, Declarator, Exp, Init, Member, Names, Param, Specifier, Suffix};
 use std::alloc::Global;
@@ -132,38 +132,4 @@ pub(crate) fn show_tags(alloc: Global, out: &mut Vec<u8>, depth: u32) -> Result<
         }
     }
     put_named(alloc, out, b"tags ", tags)
-}
-
-/// Writes whether `T`, `U` and `V` are typedef names.
-fn put_types(alloc: Global, out: &mut Vec<u8>, names: &Names) -> Result<(), Memory> {
-    for word in [b"T", b"U", b"V"] {
-        if names.is_type(&Text::new(alloc, word.as_slice())?) {
-            put(out, word.as_slice())?;
-        }
-    }
-    put(out, b" ")
-}
-
-/// The typedef names in force in a scope where `T` is hidden and `V` is declared, in a scope inside it where `T` is declared and `U` and
-/// `V` are hidden, and behind each.
-pub(crate) fn show_scopes(alloc: Global, out: &mut Vec<u8>) -> Result<(), Memory> {
-    let t = Text::new(alloc, b"T")?;
-    let u = Text::new(alloc, b"U")?;
-    let v = Text::new(alloc, b"V")?;
-    let mut names = Names::new(alloc);
-    names.declare_type(&t)?;
-    names.declare_type(&u)?;
-    names.open_scope()?;
-    names.hide(&t)?;
-    names.declare_type(&v)?;
-    put_types(alloc, out, &names)?;
-    names.open_scope()?;
-    names.declare_type(&t)?;
-    names.hide(&u)?;
-    names.hide(&v)?;
-    put_types(alloc, out, &names)?;
-    names.close_scope()?;
-    put_types(alloc, out, &names)?;
-    names.close_scope()?;
-    put_types(alloc, out, &names)
 }
