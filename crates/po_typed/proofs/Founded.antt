@@ -151,7 +151,7 @@ blocks_stay : {a b : Context} → Grows a b → (blocks : List Block) → All (W
 blocks_stay {a = a} {b = b} g blocks h = (
   All-weaker (WordsFit (length a.structs)) (WordsFit (length b.structs))
       (λ x. All-weaker (λ w. meaning_below w.1 ≤ length a.structs) (λ w. meaning_below w.1 ≤ length b.structs) (λ w k. omega (arith, k, g.longer)) x.words) blocks h.0,
-  All-weaker (TagsFit a.names) (TagsFit b.names) (λ x. All-weaker (λ z. HasTag a.names z.1) (λ z. HasTag b.names z.1) (λ z. tag_stays g z.1) x.tags) blocks h.1
+  All-weaker (TagsFit a.names) (TagsFit b.names) (λ x. All-weaker (λ z. HasTag a.names z.1) (λ z. HasTag b.names z.1) (λ z. tag_stays g z.1) x.tags) blocks h.1,
 )
 
 pub keeps_back : {ctx inner : Context} → IsFounded ctx → Keeps ctx inner → Keeps ctx (back_in ctx inner)

@@ -1,7 +1,7 @@
 -- Declarations keep that what is in force is founded.
 use Rattle.std.proofs.Common.{◌≡◌, ℕ, suc, ◌≤◌, List, [], ◌∷◌, ◌++◌, map, max, length, get_or, Option, Some, None, IsSome, Bool, true, false, refl, sym, ap, ◌∙◌, subst, arith, codes, Contains, All}
 use Rattle.std.specs.Prelude.{ℤ}
-use Rattle.std.proofs.lemmas.List.Elements.{All-nil, All-contains, All-from_recursion, All-weaker, All-push}
+use Rattle.std.proofs.lemmas.List.Elements.{All-nil, All-cons, All-contains, All-from_recursion, All-weaker, All-push}
 use Rattle.std.proofs.Math.Nat.{max-le}
 use Rattle.po_arith.specs.declared.target.Target.{Target}
 use Rattle.po_tree.specs.declared.expression.Exp.{Exp}
@@ -12,6 +12,7 @@ use Rattle.po_tree.specs.declared.expression.Param.{Param}
 use Rattle.po_tree.specs.declared.declaration.Init.{Init}
 use Rattle.po_tree.specs.declared.declaration.Init.TheOpen.{Init-F}
 use Rattle.po_tree.specs.declared.declaration.Decl.{Decl}
+use Rattle.po_tree.specs.declared.function.FunTree.{FunTree}
 use Rattle.po_arith.specs.declared.int_type.IntType.{IntType}
 use Rattle.po_types.specs.declared.env.Env.{Env}
 use Rattle.po_types.specs.declared.ctype.CType.{CType, out-CType, fold-roll-CType}
@@ -22,13 +23,14 @@ use Rattle.po_types.specs.Nesting.{structs_below, names_below, greatest, IsWellF
 use Rattle.po_types.specs.NestingLaws.{below_Ptr, below_Array, below_Struct, below_Fun}
 use Rattle.po_types.specs.Types.{completes, composite}
 use Rattle.po_typed.specs.Forms.{SpecifierLayer}
-use Rattle.po_typed.specs.Scopes.{Context, automatic, in_register, global, function, local, type_name, constant, enum_tag, in_new_block, with_struct, next_struct}
+use Rattle.po_typed.specs.Scopes.{Context, automatic, in_register, global, function, local, type_name, constant, enum_tag, no_block, in_new_block, with_struct, next_struct}
 use Rattle.po_typed.specs.BaseTypes.{word_types, IsWordType, starred}
 use Rattle.po_typed.specs.Expressions.{Pair, IsArray, sized_first, unsized_first, Sized, no_more_sizes, one_more_size}
 use Rattle.po_typed.specs.Initialisers.{Place, Initialises, scalar_value, scalar_in_braces, struct_value, struct_list, array_list, unsized_list, text, unsized_text}
 use Rattle.po_typed.specs.Declarations.{Introduces, no_more_tags, old_tag, new_tag, Shapes, plain_shape, array_shape, Adjusted, number_taken, pointer_taken, array_taken, Enters, unnamed_parameter, named_parameter, register_parameter, Specified, specified_by_words, specified_by_one, Specifies, typedef_used, struct_used, struct_declared, enum_used, struct_untagged, struct_tagged, struct_completed, enum_untagged, enum_tagged, Membered, no_more_members, members_declared, MembersOf, no_more_of_them, one_more_member, Enumerated, no_more_enumerators, counted, valued, Listed, no_more_params, one_more_param, Takes, takes_void, takes_params, Declares, declares_shape, declares_function, File, Names, named_first, named_again, Part, part_typedef, part_function, part_function_again, part_object, part_initialised, Parts, no_more_parts, one_more_part, DeclaredIn, lone_semicolon, declared_alone, declared_parts}
+use Rattle.po_typed.specs.Statements.{Receives, receives_nothing, receives_void, receives_params, NamesFunction, function_new, function_again, Defines, defines}
 use Rattle.po_typed.specs.Environments.{Shows}
-use Rattle.po_typed.specs.Founded.{IsFounded}
+use Rattle.po_typed.specs.Founded.{meaning_below, HasTag, WordsFit, TagsFit, IsFounded, first_context}
 use Rattle.po_typed.proofs.OneSpecifier.{some_is_not_none}
 use Rattle.po_typed.proofs.Founded.{Grows, Keeps, MembersFit, unchanged, keeps_then, meaning_fits, meaning_here_fits, within, tag_is_there, tag_here_is_there, keeps_word, keeps_tag, keeps_retold, founded_inside, keeps_back, keeps_struct, longer_by_one, new_is_tagged, keeps_new_struct, keeps_completed}
 
@@ -60,13 +62,82 @@ below_Int t = ap structs_below (sym (c.rolls-Int t)) ∙ fold-roll-CType _ names
 -- types of words name no struct
 words_below : {target : Target} {specs : List Specifier} {t : CType} → IsWordType target specs t → structs_below t ≡ 0
 words_below {target = target} {t = t} d = All-contains (λ e. structs_below e.1 ≡ 0) (word_types target) (d.row, t)
-    (All-from_recursion (λ e. structs_below e.1 ≡ 0) (word_types target)
-        (below_Void, (below_Int char_type, (below_Int char_type, (below_Int (unsigned_type 8), (below_Int (signed_type 16), 
-        (below_Int (signed_type 16), (below_Int (signed_type 16), (below_Int (signed_type 16), (below_Int (unsigned_type 16), (below_Int (unsigned_type 16), 
-        (below_Int int_type, (below_Int int_type, (below_Int int_type, (below_Int (unsigned_type 32), (below_Int (unsigned_type 32), 
-        (below_Int (long_type target), (below_Int (long_type target), (below_Int (long_type target), (below_Int (long_type target), (below_Int (size_type target), 
-        (below_Int (size_type target), (below_Int (signed_type 64), (below_Int (signed_type 64), (below_Int (signed_type 64), (below_Int (signed_type 64), 
-        (below_Int (unsigned_type 64), (below_Int (unsigned_type 64), (below_Int bool_type, tt))))))))))))))))))))))))))))) d.listed
+    (All-from_recursion (λ e. structs_below e.1 ≡ 0) (word_types target) (
+      below_Void,
+      (
+        below_Int char_type,
+        (
+          below_Int char_type,
+          (
+            below_Int (unsigned_type 8),
+            (
+              below_Int (signed_type 16),
+              (
+                below_Int (signed_type 16),
+                (
+                  below_Int (signed_type 16),
+                  (
+                    below_Int (signed_type 16),
+                    (
+                      below_Int (unsigned_type 16),
+                      (
+                        below_Int (unsigned_type 16),
+                        (
+                          below_Int int_type,
+                          (
+                            below_Int int_type,
+                            (
+                              below_Int int_type,
+                              (
+                                below_Int (unsigned_type 32),
+                                (
+                                  below_Int (unsigned_type 32),
+                                  (
+                                    below_Int (long_type target),
+                                    (
+                                      below_Int (long_type target),
+                                      (
+                                        below_Int (long_type target),
+                                        (
+                                          below_Int (long_type target),
+                                          (
+                                            below_Int (size_type target),
+                                            (
+                                              below_Int (size_type target),
+                                              (
+                                                below_Int (signed_type 64),
+                                                (
+                                                  below_Int (signed_type 64),
+                                                  (
+                                                    below_Int (signed_type 64),
+                                                    (
+                                                      below_Int (signed_type 64),
+                                                      (below_Int (unsigned_type 64), (below_Int (unsigned_type 64), (below_Int bool_type, tt))),
+                                                    ),
+                                                  ),
+                                                ),
+                                              ),
+                                            ),
+                                          ),
+                                        ),
+                                      ),
+                                    ),
+                                  ),
+                                ),
+                              ),
+                            ),
+                          ),
+                        ),
+                      ),
+                    ),
+                  ),
+                ),
+              ),
+            ),
+          ),
+        ),
+      ),
+    )) d.listed
 
 starred_below : (t : CType) (stars : List (List (List ℕ))) → structs_below (starred t stars) ≡ structs_below t
 starred_below t [] = refl
@@ -168,7 +239,7 @@ mutual
   keeps_members {ctx = ctx} {list = list} f b h (one_more_member {inner = inner} {t = t} {name = name} q S i n R) =
       let T = keeps_shape f b S in
       let N = keeps_members T.keeps.founded (omega (arith, b, T.keeps.grows.longer))
-          (All-push (λ x. structs_below x.1 ≤ length inner.structs) list (name, t) (fit_more (length ctx.structs) (length inner.structs) list T.keeps.grows.longer h) T.type) R in
+      (All-push (λ x. structs_below x.1 ≤ length inner.structs) list (name, t) (fit_more (length ctx.structs) (length inner.structs) list T.keeps.grows.longer h) T.type) R in
       record { keeps = keeps_then T.keeps N.keeps; members = N.members }
 
   keeps_enumerated : {ctx a : Context} {next : ℤ} {items : List (List ℕ × Option Exp)} {ps : List Pair} → IsFounded ctx → Enumerated ctx next items a ps → Keeps ctx a
@@ -231,7 +302,7 @@ keeps_part f h (part_initialised {own = own} {u = u} {v = v} {n = n} {name = nam
     let O = keeps_named N T.keeps.founded T.type in
     let J = keeps_introduced O.keeps.founded I in
     let R = keeps_retold name (global (composite u v) n) J.founded (composite_below (length own.structs) u v (omega (arith, O.type, J.grows.longer))
-        (omega (arith, initialised_below V, T.type, O.keeps.grows.longer, J.grows.longer))) in
+    (omega (arith, initialised_below V, T.type, O.keeps.grows.longer, J.grows.longer))) in
     keeps_then T.keeps (keeps_then O.keeps (keeps_then J R))
 
 keeps_parts : {file f : File} {class : Option (List ℕ)} {inline const : Bool} {base : CType} {parts : List (Declarator × Option Init)} → IsFounded file.context →
@@ -245,7 +316,34 @@ keeps_file f (lone_semicolon e p) = f
 keeps_file f (declared_alone t p w h S) = let T = keeps_specified f S in T.keeps.founded
 keeps_file f (declared_parts n w h k S P) = let T = keeps_specified f S in keeps_parts T.keeps.founded T.type P
 
+keeps_received : {ctx a : Context} {params : List Param} {ts : List CType} {ps : List Pair} → IsFounded ctx → Receives ctx params ts a ps → KeepsList ctx ts a
+keeps_received f receives_nothing = record { keeps = from_outside (unchanged (founded_inside f)); types = omega arith }
+keeps_received f (receives_void v) = record { keeps = from_outside (unchanged (founded_inside f)); types = omega arith }
+keeps_received f (receives_params n h L) = let K = keeps_listed (founded_inside f) L in record { keeps = from_outside K.keeps; types = K.types }
+
+keeps_name : {ctx a : Context} {name : List ℕ} {t : CType} → IsFounded ctx → structs_below t ≤ length ctx.structs → NamesFunction ctx name t a → IsFounded a
+keeps_name {name = name} {t = t} f h (function_new w) = let K = keeps_word name (function t) f h in K.founded
+keeps_name f h (function_again w) = f
+
+-- a definition keeps that the file is founded
+pub keeps_definition : {file f : File} {tree : FunTree} {ps : List Pair} → IsFounded file.context → Defines file tree f ps → IsFounded f.context
+keeps_definition {tree = tree} f (defines {inner = inner} {base = base} {ts = ts} n s w h S k r R N l I) =
+    let T = keeps_specified f S in
+    let L = keeps_received T.keeps.founded R in
+    let B = keeps_back T.keeps.founded L.keeps in
+    keeps_name B.founded (subst (λ z. z ≤ length inner.structs) (sym (below_Fun (starred base tree.declarator.stars) ts false))
+    (max-le (omega (arith, T.type, starred_below base tree.declarator.stars, L.keeps.grows.longer)) L.types)) N
+
+pub first_is_founded : (target : Target) → IsFounded (first_context target)
+first_is_founded target = record {
+  named = refl;
+  listed = refl;
+  words = All-cons (WordsFit 0) no_block [] (All-nil (λ w. meaning_below w.1 ≤ 0)) (All-nil (WordsFit 0));
+  tags = All-cons (TagsFit []) no_block [] (All-nil (λ x. HasTag [] x.1)) (All-nil (TagsFit []));
+  untagged = λ n h. none_fit n;
+}
+
 pub shown_is_well_founded : {env : Env} {file : File} → Shows env file → IsFounded file.context → IsWellFounded env
 shown_is_well_founded {env = env} {file = file} s f =
     subst (λ z. (n : ℕ) → get_or z n None ≡ None → MembersFit n (get_or env.members n [])) (sym s.names)
-        (subst (λ z. (n : ℕ) → get_or file.context.names n None ≡ None → MembersFit n (get_or z n [])) (sym s.members) f.untagged)
+    (subst (λ z. (n : ℕ) → get_or file.context.names n None ≡ None → MembersFit n (get_or z n [])) (sym s.members) f.untagged)

@@ -1,10 +1,14 @@
 -- The structs that types name are there, and the members of a struct without a tag name only structs that were declared before its body ended.
-use Rattle.std.specs.Prelude.{ℕ, suc, ◌≤◌, ◌≡◌, List, [], length, get_or, All, Option, None, IsSome}
+use Rattle.std.specs.Prelude.{ℕ, ◌≤◌, ◌≡◌, List, [], ◌∷◌, length, get_or, All, Option, None, IsSome}
 use Rattle.po_types.specs.declared.env.Env.{Env}
 use Rattle.po_types.specs.Nesting.{structs_below, IsWellFounded}
+use Rattle.po_arith.specs.declared.target.Target.{Target}
 use Rattle.po_tree.specs.declared.declaration.Decl.{Decl}
-use Rattle.po_typed.specs.Scopes.{Meaning, global, function, local, type_name, constant, Tag, struct_tag, enum_tag, Block, Context}
+use Rattle.po_tree.specs.declared.function.FunTree.{FunTree}
+use Rattle.po_typed.specs.Scopes.{Meaning, global, function, local, type_name, constant, Tag, struct_tag, enum_tag, Block, no_block, Context}
+use Rattle.po_typed.specs.Expressions.{Pair}
 use Rattle.po_typed.specs.Declarations.{File, DeclaredIn}
+use Rattle.po_typed.specs.Statements.{Defines}
 use Rattle.po_typed.specs.Environments.{Shows}
 
 -- the least number above those of all structs that the type of a word names
@@ -37,6 +41,17 @@ pub record IsFounded (ctx : Context) : Type 0 where
 -- declarations keep that what is in force is founded
 abbrev pub DeclarationsKeepFounded : Type 0
 DeclarationsKeepFounded = (file f : File) (d : Decl) → IsFounded file.context → DeclaredIn file d f → IsFounded f.context
+
+-- so do definitions
+abbrev pub DefinitionsKeepFounded : Type 0
+DefinitionsKeepFounded = (file f : File) (tree : FunTree) (ps : List Pair) → IsFounded file.context → Defines file tree f ps → IsFounded f.context
+
+-- before its first piece nothing is in force in a file
+abbrev pub first_context : Target → Context
+first_context target = record { target = target; structs = []; members = []; names = []; blocks = no_block ∷ [] }
+
+abbrev pub FirstIsFounded : Type 0
+FirstIsFounded = (target : Target) → IsFounded (first_context target)
 
 -- an environment that shows what is founded is well founded
 abbrev pub ShownIsWellFounded : Type 0

@@ -1,4 +1,4 @@
-ghost use Rattle.po_typed.specs.Founded.{DeclarationsKeepFounded, ShownIsWellFounded};
+ghost use Rattle.po_typed.specs.Founded.{DeclarationsKeepFounded, DefinitionsKeepFounded, FirstIsFounded, ShownIsWellFounded};
 ghost use Rattle.po_typed.specs.Laws.{OneAssignment, OneDefinition, OneFile, OneInitialising, OneNamedType, OneOperand, OnePassing, OneRun, OneSpecified, OneTyping, OneValue};
 
 use po_types::{format_is_one, layout_is_one};
@@ -88,6 +88,16 @@ pub fn definition_has_one_typing()
 /// declared before its body ended. It does nothing.
 pub fn declarations_keep_founded()
     ensures { DeclarationsKeepFounded }
+{}
+
+/// So do definitions. It does nothing.
+pub fn definitions_keep_founded()
+    ensures { DefinitionsKeepFounded }
+{}
+
+/// Before the first piece of a file what is in force is founded. It does nothing.
+pub fn first_context_is_founded()
+    ensures { FirstIsFounded }
 {}
 
 /// So each environment that declarations make is well founded, and each of its types can be spelled. It does nothing.
