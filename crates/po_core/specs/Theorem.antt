@@ -3,7 +3,7 @@ use Rattle.std.specs.Prelude.{ℕ, zero, suc, ◌≡◌, ◌<◌, ◌+◌, ◌�
 use Rattle.std.specs.List.{Contains, flat_map}
 use Rattle.po_base.specs.declared.numbers.FileNo.{FileNo}
 use Rattle.po_base.specs.declared.numbers.FunNo.{FunNo}
-use Rattle.po_core.specs.Book.{Book, file_of_obl}
+use Rattle.po_core.specs.Book.{Book, IsSupport, file_of_obl}
 use Rattle.po_core.specs.Core.{AreApart, CoreState, HasHand, HasMark, IsKnown, IsUntaken, IsSettled, IsAssumed, IsInHand}
 use Rattle.po_core.specs.Least.{IsReported, IsNeeded}
 use Rattle.po_core.specs.declared.event.Event.{Event}
@@ -42,7 +42,7 @@ pub record IsLeast {P N T : Type 0} (b : Book P N T) (es : List (Event P N)) (s 
   pub once : (o : Obl P) → IsKnown s o → IsSettledOnce es o (b.verdict_of o)
 
 -- Each known obligation has one mark and a function that is there, a hand has obligations of its file alone, each
--- once and none untaken, and what is taken is in its file's hand.
+-- once and none untaken, what is taken is in its file's hand, and each call supports what is assumed of the function that it calls.
 pub record IsOrderly {P N T : Type 0} (b : Book P N T) (s : CoreState P N) : Type 0 where
   pub one_mark : (o : Obl P) (m n : Mark P N) → HasMark s o m → HasMark s o n → m ≡ n
   pub functions_there : (o : Obl P) → IsKnown s o → o.fun.0 < b.functions
@@ -51,6 +51,7 @@ pub record IsOrderly {P N T : Type 0} (b : Book P N T) (s : CoreState P N) : Typ
   pub hands_once : (file : FileNo) (hand : Hand P) → HasHand s file hand → AreApart hand.items
   pub hands_taken : (file : FileNo) (o : Obl P) → IsInHand s file o → ¬ IsUntaken s o
   pub taken_in_hand : (o : Obl P) → HasMark s o Taken → IsInHand s (file_of_obl b o) o
+  pub supports_known : (f : FunNo) (q : P) (o : Obl P) → IsAssumed s f q → IsSupport b f q o → IsKnown s o
 
 -- how many events settle an obligation
 abbrev pub settle_count : {P N : Type 0} → List (Event P N) → ℕ

@@ -23,7 +23,8 @@ pub fn quiet_lists_are_least<R: Rulebook>(book: &R)
     let _book = book;
 }
 
-/// Every legal list of events leads to a state in which hands and marks agree. It does nothing.
+/// Every legal list of events leads to a state in which hands and marks agree, and each call supports what is assumed of the
+/// function that it calls. It does nothing.
 pub fn legal_lists_are_orderly<R: Rulebook>(book: &R)
     ensures { (es : List (Event R.Pred R.Rule)) (s : CoreState R.Pred R.Rule) → Replays (R.meaning book.now) es s → IsOrderly (R.meaning book.now) s }
 {

@@ -1,19 +1,16 @@
 -- How many are in a set.
-use Rattle.std.proofs.Common.{◌≡◌, ◌⊎◌, ℕ, ◌+◌, ◌<◌, ◌≤◌, List, [], ◌∷◌, length, map, take, get_or, refl, sym, ap, subst, inl, inr, arith}
-use Rattle.std.specs.Prelude.{Option, Some}
+use Rattle.std.proofs.Common.{◌≡◌, ◌⊎◌, ℕ, suc, ◌+◌, ◌-◌, ◌<◌, ◌≤◌, List, [], ◌∷◌, length, set, replicate, refl, sym, ◌∙◌, ap, subst, inl, inr, arith}
+use Rattle.std.specs.Prelude.{Option, Some, None, slice_get, ◌↔◌}
 use Rattle.std.proofs.lemmas.Option.{slice_get_within}
 use Rattle.std.specs.List.{Contains}
-use Rattle.std.proofs.lemmas.Bool.{cases_eq}
 use Rattle.po_base.specs.declared.numbers.FileNo.{FileNo}
 use Rattle.po_core.specs.Core.{AreApart}
-use Rattle.po_core.specs.Lists.{has, contains}
+use Rattle.po_core.specs.Lists.{Has, has, contains}
 use Rattle.po_core.specs.declared.event.Hand.{Hand}
-use Rattle.po_core.specs.declared.event.Mark.{Mark}
-use Rattle.po_core.specs.declared.event.Mark.TheVariants.{Untaken}
-use Rattle.po_core.specs.declared.obl.Obl.{Obl}
 use Rattle.po_ledger.specs.Calls.{Counts}
 use Rattle.po_ledger.specs.Parts.{HandAt}
-use Rattle.po_ledger.proofs.Lists.{front_cases, front_last, front_more, key_once}
+use Rattle.po_ledger.proofs.Queued.{held_cases, held_now, held_still, no_hand}
+use Rattle.po_marks.proofs.InLine.{few_below, same_file, same_number}
 
 module _ {X : Type 0} (Q R : X → Type 0) where
   pub counts_none : ((x : X) → ¬ Q x) → Counts Q 0
@@ -32,63 +29,93 @@ module _ {X : Type 0} (Q R : X → Type 0) where
     let long : length c.0 ≡ n = c.4 in omega arith,
   )
 
--- the files below a number that are held
-module _ {P : Type 0} (hands : List (Option (Hand P))) where
-  abbrev pub IsHeldBelow : ℕ → FileNo → Type 0
-  IsHeldBelow n file = (file.0 < n) × HandAt hands file
+-- a list without one of its items
+record Dropped {X : Type 0} (xs : List X) (x : X) : Type 0 where
+  pub rest : List X
+  pub apart : AreApart rest
+  pub shorter : length xs ≡ suc (length rest)
+  pub others : (y : X) → Has rest y ↔ (Has xs y × ¬ (y ≡ x))
 
-  pub none_below : Counts (IsHeldBelow 0) 0
-  none_below = counts_none (IsHeldBelow 0) (IsHeldBelow 0) (λ f h. let l : f.0 < 0 = h.0 in absurd (omega arith))
+dropped : {X : Type 0} (xs : List X) (x : X) → AreApart xs → Has xs x → Dropped xs x
+dropped [] x a h = absurd h
+dropped {X = X} (z ∷ zs) x a (inl q) = record {
+  rest = zs;
+  apart = a.1;
+  shorter = refl;
+  others = λ y. (
+    λ h. (inr h, λ e. a.0 (contains zs z (subst (λ (w : X). Has zs w) (e ∙ sym q) h))),
+    λ h. elim h.0 [ inl p ↦ absurd (h.1 (sym p ∙ q)) | inr k ↦ k ],
+  );
+}
+dropped {X = X} (z ∷ zs) x a (inr h) =
+    let r = dropped zs x a.1 h in
+    let other : ¬ (z ≡ x) = λ e. a.0 (contains zs z (subst (λ (w : X). Has zs w) (sym e) h)) in
+    record {
+      rest = z ∷ r.rest;
+      apart = (λ k. a.0 (contains zs z ((r.others z).0 (has r.rest z k)).0), r.apart);
+      shorter = ap suc r.shorter;
+      others = λ y. (
+        λ k. elim k [ inl p ↦ (inl p, λ e. other (p ∙ e)) | inr w ↦ (let v = (r.others y).0 w in (inr v.0, v.1)) ],
+        λ k. elim k.0 [ inl p ↦ inl p | inr w ↦ inr ((r.others y).1 (w, k.1)) ],
+      );
+    }
 
-  below_cases : (n : ℕ) (f : FileNo) → IsHeldBelow (n + 1) f → IsHeldBelow n f ⊎ (f ≡ record { 0 = n })
-  below_cases n f h = elim (cases_eq f.0 n) [
-    | inl q ↦ inr (let to : ℕ → FileNo = λ k. record { 0 = k } in ap to q)
-    | inr q ↦ inl (let other : f.0 ≡ n → ⊥ = q in let l : f.0 < n + 1 = h.0 in omega arith, h.1)
-  ]
+module _ {X : Type 0} (Q R : X → Type 0) where
+  -- one less
+  pub counts_less : (x : X) (n : ℕ) → Counts Q n → Q x → ((y : X) → R y ↔ (Q y × ¬ (y ≡ x))) → (m : ℕ) × Counts R m × (m + 1 ≡ n)
+  counts_less x n c here same =
+      let d = dropped c.0 x c.1 (has c.0 x (c.3 x here)) in
+      let long : length c.0 ≡ n = c.4 in
+      let short : length c.0 ≡ suc (length d.rest) = d.shorter in (
+        length d.rest,
+        (
+          d.rest,
+          d.apart,
+          λ y h. let k = (d.others y).0 (has d.rest y h) in (same y).1 (c.2 y (contains c.0 y k.0), k.1),
+          λ y h. let k = (same y).0 h in contains d.rest y ((d.others y).1 (has c.0 y (c.3 y k.0), k.1)),
+          refl,
+        ),
+        omega (arith, long, short),
+      )
 
-  pub held_here : (n k : ℕ) → Counts (IsHeldBelow n) k → HandAt hands (record { 0 = n }) → Counts (IsHeldBelow (n + 1)) (k + 1)
-  held_here n k c h = counts_more (IsHeldBelow n) (IsHeldBelow (n + 1)) (record { 0 = n }) k c (λ x. let l : n < n = x.0 in omega arith) (omega arith, h) (λ f x. (let l : f.0 < n = x.0 in omega arith, x.1)) (below_cases n)
+-- there is one, where there is one
+pub counts_some : {X : Type 0} (Q : X → Type 0) (n : ℕ) → Counts Q n → (0 < n) → (x : X) × Q x
+counts_some Q n c l = some c.0 c.2 (let long : length c.0 ≡ n = c.4 in omega (arith, l, long))
+  where
+    some : (xs : List _) → ((x : _) → Contains xs x → Q x) → 0 < length xs → (x : _) × Q x
+    some [] all l = absurd (omega arith)
+    some (x ∷ xs) all l = (x, all x (contains (x ∷ xs) x (inl refl)))
 
-  pub free_here : (n k : ℕ) → Counts (IsHeldBelow n) k → ¬ HandAt hands (record { 0 = n }) → Counts (IsHeldBelow (n + 1)) k
-  free_here n k c free = counts_same (IsHeldBelow n) (IsHeldBelow (n + 1)) k (λ f x. (let l : f.0 < n = x.0 in omega arith, x.1)) (λ f x. elim (below_cases n f x) [ inl y ↦ y | inr q ↦ absurd (free (subst (λ (z : FileNo). HandAt hands z) q x.1)) ]) c
+pub some_counts : {X : Type 0} (Q : X → Type 0) (n : ℕ) → Counts Q n → (x : X) × Q x → 0 < n
+some_counts Q n c h = let l = (c.3 h.0 h.1).1 in let long : length c.0 ≡ n = c.4 in omega (arith, l, long)
 
-  pub held_then : (n k m : ℕ) → Counts (IsHeldBelow n) k × (k ≤ n) → HandAt hands (record { 0 = n }) → m ≡ k + 1 → Counts (IsHeldBelow (n + 1)) m × (m ≤ n + 1)
-  held_then n k m c h is = let le : k ≤ n = c.1 in (subst (λ (z : ℕ). Counts (IsHeldBelow (n + 1)) z) (sym is) (held_here n k c.0 h), omega arith)
+-- files that are held
+module _ {P : Type 0} (hands later : List (Option (Hand P))) (file : FileNo) (n : ℕ) (c : Counts (HandAt hands) n) where
+  pub held_more : (hand : Hand P) → ¬ HandAt hands file → file.0 < length hands → later ≡ set hands file.0 (Some hand) → Counts (HandAt later) (n + 1)
+  held_more hand free within is =
+      counts_more (HandAt hands) (HandAt later) file n c free
+      (subst (λ (z : List (Option (Hand P))). HandAt z file) (sym is) (held_now hands file.0 hand file refl within))
+      (λ f h. subst (λ (z : List (Option (Hand P))). HandAt z f) (sym is) (held_still hands file.0 (Some hand) f (λ q. free (subst (λ (z : FileNo). HandAt hands z) (same_file f file q) h)) h))
+      (λ f h. elim (held_cases hands file.0 (Some hand) f (subst (λ (z : List (Option (Hand P))). HandAt z f) is h)) [ inl x ↦ inr (same_file f file x.0) | inr x ↦ inl x.1 ])
 
-  pub held_else : (n k m : ℕ) → Counts (IsHeldBelow n) k × (k ≤ n) → ¬ HandAt hands (record { 0 = n }) → m ≡ k → Counts (IsHeldBelow (n + 1)) m × (m ≤ n + 1)
-  held_else n k m c h is = let le : k ≤ n = c.1 in (subst (λ (z : ℕ). Counts (IsHeldBelow (n + 1)) z) (sym is) (free_here n k c.0 h), omega arith)
+  pub held_less : HandAt hands file → later ≡ set hands file.0 None → (m : ℕ) × Counts (HandAt later) m × (m + 1 ≡ n)
+  held_less held is = counts_less (HandAt hands) (HandAt later) file n c held (λ f. (
+    λ h. elim (held_cases hands file.0 None f (subst (λ (z : List (Option (Hand P))). HandAt z f) is h)) [
+      | inl x ↦ absurd (let none : ◌≡◌ {A = Option (Hand P)} None (Some x.1.0) = x.1.1 in cc)
+      | inr x ↦ (x.1, λ q. x.0 (same_number f file q))
+    ],
+    λ h. subst (λ (z : List (Option (Hand P))). HandAt z f) (sym is) (held_still hands file.0 None f (λ q. h.1 (same_file f file q)) h.0),
+  ))
 
-  pub held_all : (n k files : ℕ) → length hands ≡ files → files ≤ n → Counts (IsHeldBelow n) k → Counts (HandAt hands) k
-  held_all n k files long done c = counts_same (IsHeldBelow n) (HandAt hands) k (λ f h. h.1) (λ f h. (let l : f.0 < length hands = slice_get_within hands f.0 (Some h.0) h.1 in omega arith, h)) c
+  pub less_held : HandAt hands file → later ≡ set hands file.0 None → (m : ℕ) → m ≡ n - 1 → Counts (HandAt later) m
+  less_held held is m q = let r = held_less held is in subst (λ (z : ℕ). Counts (HandAt later) z) (let w = r.2 in omega (arith, w, q)) r.1
 
--- the untaken obligations of a front of the marks
-module _ {P N : Type 0} (marks : List (Obl P × Mark P N)) where
-  abbrev pub IsUntakenBefore : ℕ → Obl P → Type 0
-  IsUntakenBefore i o = Contains (take i marks) (o, Untaken)
+  pub held_one : HandAt hands file → 1 ≤ n
+  held_one h = let l = some_counts (HandAt hands) n c (file, h) in omega (arith, l)
 
-  pub none_before : Counts (IsUntakenBefore 0) 0
-  none_before = counts_none (IsUntakenBefore 0) (IsUntakenBefore 0) (λ o h. has (take 0 marks) (o, Untaken) h)
+  -- no more are held than there are
+  pub held_below : n ≤ length hands
+  held_below = let few = few_below c.0 (length hands) c.1 (λ f h. let x = c.2 f h in slice_get_within hands f.0 (Some x.0) x.1) in let long : length c.0 ≡ n = c.4 in omega (arith, few, long)
 
-  module _ (i : ℕ) (e : Obl P × Mark P N) (l : i < length marks) (q : e ≡ get_or marks i e) (k : ℕ) (c : Counts (IsUntakenBefore i) k) where
-    pub untaken_here : AreApart (map (λ x. x.0) marks) → e.1 ≡ Untaken → Counts (IsUntakenBefore (i + 1)) (k + 1)
-    untaken_here apart is =
-        let entry : ◌≡◌ {A = Obl P × Mark P N} e (e.0, Untaken) = ap (λ (z : Mark P N). let y : Obl P × Mark P N = (e.0, z) in y) is in
-        counts_more (IsUntakenBefore i) (IsUntakenBefore (i + 1)) e.0 k c
-        (λ h. key_once marks i e apart l q Untaken (has (take i marks) (e.0, Untaken) h))
-        (subst (λ (z : Obl P × Mark P N). Contains (take (i + 1) marks) z) entry (front_last marks i e l q))
-        (λ o h. front_more marks i e (o, Untaken) l q h)
-        (λ o h. elim (front_cases marks i e (o, Untaken) l q h) [ inl x ↦ inl x | inr x ↦ inr (ap (λ (z : Obl P × Mark P N). z.0) (sym x)) ])
-
-    pub other_here : ¬ (e.1 ≡ Untaken) → Counts (IsUntakenBefore (i + 1)) k
-    other_here other = counts_same (IsUntakenBefore i) (IsUntakenBefore (i + 1)) k
-        (λ o h. front_more marks i e (o, Untaken) l q h)
-        (λ o h. elim (front_cases marks i e (o, Untaken) l q h) [ inl x ↦ x | inr x ↦ absurd (other (ap (λ (z : Obl P × Mark P N). z.1) x)) ]) c
-
-  pub untaken_then : (i : ℕ) (e : Obl P × Mark P N) (k m : ℕ) → AreApart (map (λ x. x.0) marks) → i < length marks → e ≡ get_or marks i e → Counts (IsUntakenBefore i) k × (k ≤ i) → e.1 ≡ Untaken → m ≡ k + 1 → Counts (IsUntakenBefore (i + 1)) m × (m ≤ i + 1)
-  untaken_then i e k m apart l q c h is = let le : k ≤ i = c.1 in (subst (λ (z : ℕ). Counts (IsUntakenBefore (i + 1)) z) (sym is) (untaken_here i e l q k c.0 apart h), omega arith)
-
-  pub untaken_else : (i : ℕ) (e : Obl P × Mark P N) (k m : ℕ) → i < length marks → e ≡ get_or marks i e → Counts (IsUntakenBefore i) k × (k ≤ i) → ¬ (e.1 ≡ Untaken) → m ≡ k → Counts (IsUntakenBefore (i + 1)) m × (m ≤ i + 1)
-  untaken_else i e k m l q c h is = let le : k ≤ i = c.1 in (subst (λ (z : ℕ). Counts (IsUntakenBefore (i + 1)) z) (sym is) (other_here i e l q k c.0 h), omega arith)
-
-  pub untaken_all : (i k : ℕ) → take i marks ≡ marks → Counts (IsUntakenBefore i) k → Counts (λ o. Contains marks (o, Untaken)) k
-  untaken_all i k is c = subst (λ (z : List (Obl P × Mark P N)). Counts (λ o. Contains z (o, Untaken)) k) is c
+pub none_are_held : {P : Type 0} (hands : List (Option (Hand P))) (files : ℕ) → hands ≡ replicate files None → Counts (HandAt hands) 0
+none_are_held {P} hands files is = counts_none (HandAt hands) (HandAt hands) (λ f h. no_hand files f.0 h.0 (ap (λ (z : List (Option (Hand P))). slice_get z f.0) (sym is) ∙ h.1))

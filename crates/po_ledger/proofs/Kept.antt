@@ -81,6 +81,22 @@ module _ {P N T : Type 0} (b : Book P N T) (of_book : Book P N T) (l m : LedgerV
       (still_apart (ap (λ (z : CoreState P N). z.assumed) same))
       (ap (λ (z : CoreState P N). length z.hands) same) refl k.shelved
 
+  -- tables that are let go of
+  cleared_long : (later : List (List (FunNo × T))) (file : FileNo) → later ≡ set shelves file.0 [] → length later ≡ length shelves
+  cleared_long later file is = ap length is ∙ length-set shelves file.0 []
+
+  cleared_right : (later : List (List (FunNo × T))) (file : FileNo) → later ≡ set shelves file.0 [] → (at : ℕ) (tables : List (FunNo × T)) → slice_get later at ≡ Some tables → AreTables b tables
+  cleared_right later file is at tables h = elim (cases_eq at file.0) [
+    | inl q ↦ (λ f table c. absurd (
+        let there : at < length later = slice_get_within later at tables h in
+        let long : length later ≡ length shelves = ap length is ∙ length-set shelves file.0 [] in
+        let put : slice_get later at ≡ Some [] = ap (λ (z : List (List (FunNo × T))). slice_get z at) is ∙ (ap (λ (j : ℕ). slice_get (set shelves file.0 []) j) q ∙ get_set_same shelves file.0 [] (omega (arith, q))) in
+        let both : ◌≡◌ {A = Option (List (FunNo × T))} (Some []) (Some tables) = sym put ∙ h in
+        let none : [] ≡ tables = cc in
+        has [] (f, table) (subst (λ (z : List (FunNo × T)). Contains z (f, table)) (sym none) c)))
+    | inr ne ↦ k.shelved at tables (sym (get_set_other shelves file.0 at [] ne) ∙ (ap (λ (z : List (List (FunNo × T))). slice_get z at) (sym is) ∙ h))
+  ]
+
   -- taking
   unfoldable pub take_takes : (worker : ℕ) (file : FileNo) (items : List (Obl P)) → file.0 < length l.state.hands → AreRemarked (λ o. file_of_obl b o ≡ file) Untaken Taken l.state.marks m.state.marks → m.state.hands ≡ set l.state.hands file.0 (Some (record { worker = worker; items = items })) → m.state.assumed ≡ l.state.assumed → TakesFrom b l.state.marks file items → Takes b worker file l.state m.state
   take_takes worker file items within marks hands same takes = record {
@@ -103,17 +119,8 @@ module _ {P N T : Type 0} (b : Book P N T) (of_book : Book P N T) (l m : LedgerV
       (remarked_apart (λ o. file_of_obl b o ≡ file) Untaken Taken marks)
       (still_apart same)
       hands
-      (ap length is ∙ length-set shelves file.0 [])
-      (λ at tables h. elim (cases_eq at file.0) [
-        | inl q ↦ (λ f table c. absurd (
-            let there : at < length later = slice_get_within later at tables h in
-            let long : length later ≡ length shelves = ap length is ∙ length-set shelves file.0 [] in
-            let put : slice_get later at ≡ Some [] = ap (λ (z : List (List (FunNo × T))). slice_get z at) is ∙ (ap (λ (j : ℕ). slice_get (set shelves file.0 []) j) q ∙ get_set_same shelves file.0 [] (omega (arith, q))) in
-            let both : ◌≡◌ {A = Option (List (FunNo × T))} (Some []) (Some tables) = sym put ∙ h in
-            let none : [] ≡ tables = cc in
-            has [] (f, table) (subst (λ (z : List (FunNo × T)). Contains z (f, table)) (sym none) c)))
-        | inr ne ↦ k.shelved at tables (sym (get_set_other shelves file.0 at [] ne) ∙ (ap (λ (z : List (List (FunNo × T))). slice_get z at) (sym is) ∙ h))
-      ])
+      (cleared_long later file is)
+      (cleared_right later file is)
 
   -- settling
   pub settle_does : (file : FileNo) (o : Obl P) (v : Verdict P N) → IsLegal b l.state (Settle file o v) → AreRemarked (λ p. p ≡ o) Taken (Settled v) l.state.marks m.state.marks → m.state.hands ≡ l.state.hands → m.state.assumed ≡ l.state.assumed → m.journal ≡ l.journal ++ Settle file o v ∷ [] → Does b (Settle file o v) l m
@@ -189,10 +196,10 @@ module _ {P N T : Type 0} (b : Book P N T) (of_book : Book P N T) (l m : LedgerV
       appends = grows;
     }
 
-    pub put_back_kept : (did : Does b (PutBack file) l m) → AreRemarked (λ o. Contains hand.items o) Taken Untaken l.state.marks m.state.marks → m.state.assumed ≡ l.state.assumed → length m.state.hands ≡ length l.state.hands → l.spare ≤ m.spare + 1 → IsKept b of_book m shelves
-    put_back_kept did marks same hands le = kept_after shelves (PutBack file) did
+    pub put_back_kept : (later : List (List (FunNo × T))) → (did : Does b (PutBack file) l m) → AreRemarked (λ o. Contains hand.items o) Taken Untaken l.state.marks m.state.marks → m.state.assumed ≡ l.state.assumed → length m.state.hands ≡ length l.state.hands → later ≡ set shelves file.0 [] → l.spare ≤ m.spare + 1 → IsKept b of_book m later
+    put_back_kept later did marks same hands is le = kept_after later (PutBack file) did
         (room_freed l.state m.state l.spare m.spare k.ledger.room file did.steps.legal (λ o h. elim ((did.steps.effect.1 o Taken).0 h) [ inl x ↦ absurd (taken_untaken x.0) | inr x ↦ x.0 ]) (freed file did.steps.effect.0) le)
-        (remarked_apart (λ o. Contains hand.items o) Taken Untaken marks) (still_apart same) hands refl k.shelved
+        (remarked_apart (λ o. Contains hand.items o) Taken Untaken marks) (still_apart same) hands (cleared_long later file is) (cleared_right later file is)
 
 module _ {P N T : Type 0} (b of_book : Book P N T) (l : LedgerView P N T) (shelves : List (List (FunNo × T))) (k : IsKept b of_book l shelves) (law : (es : List (Event P N)) (s : CoreState P N) → Replays of_book es s → IsOrderly of_book s) where
   pub order_here : IsOrderly b l.state
@@ -217,8 +224,8 @@ module _ {P N T : Type 0} (b of_book : Book P N T) (l : LedgerView P N T) (shelv
       pub put_back_did : Does b (PutBack file) l m
       put_back_did = put_back_does b of_book l m shelves k file hand held (frees b of_book l m shelves k file hands same (held_place file (hand, held))) marks grows
 
-      pub put_back_keeps : l.spare ≤ m.spare + 1 → IsKept b of_book m shelves
-      put_back_keeps le = put_back_kept b of_book l m shelves k file hand held put_back_did marks same (ap length hands ∙ length-set l.state.hands file.0 None) le
+      pub put_back_keeps : (later : List (List (FunNo × T))) → later ≡ set shelves file.0 [] → l.spare ≤ m.spare + 1 → IsKept b of_book m later
+      put_back_keeps later is le = put_back_kept b of_book l m shelves k file hand held later put_back_did marks same (ap length hands ∙ length-set l.state.hands file.0 None) is le
 
     -- a hand's obligations are of its file
     pub hand_of_file : (file : FileNo) (hand : Hand P) → HasHand l.state file hand → (o : Obl P) → Contains hand.items o → file_of_obl of_book o ≡ file

@@ -11,11 +11,11 @@ pub mod Posted
 pub mod Tables
 pub mod Agreeing
 pub mod General
-pub mod Hands
-mod Counted
+pub mod WholeHand
+pub mod Counted
 mod Lined
 mod Ascending
 mod Reported
-mod Indexed
 mod Added
+pub mod Assuming
 pub mod Queued

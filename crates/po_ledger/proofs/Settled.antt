@@ -153,6 +153,9 @@ module _ {P N T : Type 0} (b of_book : Book P N T) (l : LedgerView P N T) (shelv
     pub give_place : (file : FileNo) → file ≡ t.file → file.0 < length l.state.hands
     give_place file is = subst (λ (z : FileNo). z.0 < length l.state.hands) (sym is) (held_place b of_book l shelves kept law t.file give_held)
 
+    pub give_hand : (file : FileNo) → file ≡ t.file → IsHeld l.state file
+    give_hand file is = subst (λ (z : FileNo). IsHeld l.state z) (sym is) give_held
+
     pub give_shelf : (file : FileNo) → file ≡ t.file → file.0 < length shelves
     give_shelf file is = let w = give_place file is in omega (arith, kept.hands_there, kept.shelves_there)
 

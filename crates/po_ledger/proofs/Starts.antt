@@ -1,9 +1,9 @@
 -- A new ledger, and when all is done.
 use Rattle.std.proofs.Common.{◌≡◌, ℕ, zero, suc, ◌+◌, ◌<◌, ◌≤◌, List, [], ◌∷◌, length, map, replicate, get_or, refl, sym, ◌∙◌, ap, subst, inl, inr, arith}
-use Rattle.std.specs.Prelude.{Bool, Option, Some, None, slice_get, IfSome, IfNone}
+use Rattle.std.specs.Prelude.{Bool, true, false, not, ◌&&◌, Option, Some, None, slice_get, IfSome, IfNone, MatchOption}
 use Rattle.std.proofs.lemmas.Option.{slice_get-get_or}
 use Rattle.std.specs.List.{Contains}
-use Rattle.std.proofs.lemmas.Bool.{cases_eq}
+use Rattle.std.proofs.lemmas.Bool.{cases_eq, false≢true}
 use Rattle.std.proofs.lemmas.List.{length-replicate}
 use Rattle.std.proofs.lemmas.List.Elements.{Contains-append_left, Contains-append_right, Contains-append_cases}
 use Rattle.po_base.specs.declared.numbers.FileNo.{FileNo}
@@ -20,11 +20,13 @@ use Rattle.po_core.specs.declared.obl.Cause.TheVariants.{Primary}
 use Rattle.po_core.specs.declared.obl.Obl.{Obl}
 use Rattle.po_core.specs.Lists.{Has, has, contains, contains_map, has_from_map}
 use Rattle.po_core.specs.Marks.{taken_untaken}
+use Rattle.po_ledger.specs.Answers.{TakesFirst}
 use Rattle.po_ledger.specs.Calls.{IsNew}
-use Rattle.po_ledger.specs.Parts.{AddsEach, HandAt, HasKey, IsIdle, primaries_of, primaries_below}
-use Rattle.po_marks.specs.Waiting.{AreWaiting, Marking, all_of}
+use Rattle.po_ledger.specs.Parts.{AddsEach, HandAt, HasKey, primaries_of, primaries_below}
+use Rattle.po_ledger.specs.Queued.{IsQueued}
+use Rattle.po_marks.specs.Waiting.{CanBeTaken, Marking, all_of, is_ready, is_some_item}
 use Rattle.po_marks.specs.declared.queue.Queue.{Queue}
-use Rattle.po_ledger.specs.View.{LedgerView, IsKept}
+use Rattle.po_ledger.specs.View.{LedgerView, TicketView, IsKept}
 
 pub quiet_then : {P N T : Type 0} (b : Book P N T) (s : CoreState P N) → (((file : FileNo) × IsHeld s file) → ⊥) → ((file : FileNo) → ¬ CanTake b s file) → IsQuiet s
 quiet_then b s none idle = record { none_held = λ f h. none (f, h); none_untaken = λ o u. idle (file_of_obl b o) (λ h. none (file_of_obl b o, h), (o, u, refl)) }
@@ -112,34 +114,65 @@ module _ {P N T : Type 0} (b of_book : Book P N T) (same : of_book ≡ b) (l : L
     shelved = λ at tables h f table c. absurd (has [] (f, table) (subst (λ (z : List (FunNo × T)). Contains z (f, table)) (sym (no_tables many at tables (ap (λ (z : List (List (FunNo × T))). slice_get z at) (sym shelf) ∙ h))) c));
   }
 
--- a file that is found can be taken, and where none is found none can be
-module _ {P N T : Type 0} (b : Book P N T) (l old : LedgerView P N T) (seen : l ≡ old) (m : Marking P N) (em : m.items ≡ l.state.marks) (w : AreWaiting b m) (hands : List (Option (Hand P))) (eh : hands ≡ l.state.hands) where
-  queue_at : (file : FileNo) → file.0 < length m.queues → (q : Queue P) × (slice_get m.queues file.0 ≡ Some q)
-  queue_at file h = let d : Queue P = record { back = []; fresh = [] } in (get_or m.queues file.0 d, slice_get-get_or m.queues file.0 d h)
+-- a queue that can be taken: nobody holds its file, and something waits in it
+not_true : (a c : Bool) → (not a && c) ≡ true → a ≡ true → ⊥
+not_true true c h t = false≢true h
+not_true false c h t = false≢true t
 
-  pub find_some : (r : Option FileNo) → IfSome r (λ file. (file.0 < length m.queues) × (¬ HandAt hands file) × ((o : Obl P) × Contains m.items (o, Untaken) × ((q : Queue P) → slice_get m.queues file.0 ≡ Some q → Contains (all_of q) o))) → IfSome r (CanTake b old.state)
-  find_some None h = h
-  find_some (Some file) h =
-      let q = queue_at file h.0 in
-      let free : ¬ HandAt l.state.hands file = subst (λ (z : List (Option (Hand P))). ¬ HandAt z file) eh h.1 in
-      let o = h.2.0 in
-      let there : Contains l.state.marks (o, Untaken) = subst (λ (z : List (Obl P × Mark P N)). Contains z (o, Untaken)) em h.2.1 in
-      let of : file_of_obl b o ≡ file = (w.each file q.0 q.1).of_file o (h.2.2 q.0 q.1) in
-      subst (λ (z : LedgerView P N T). CanTake b z.state file) seen (free, (o, there, of))
+ready_free : {P : Type 0} (q : Queue P) → is_ready q ≡ true → q.is_held ≡ true → ⊥
+ready_free q r t = not_true q.is_held (is_some_item (all_of q)) r t
 
-  pub find_none : (eq : P → P → Bool) → IsBook eq b → ((o : Obl P) → HasKey l.state.marks o → o.fun.0 < b.functions) → (r : Option FileNo) → IfNone r ((file : FileNo) → file.0 < length m.queues → IsIdle m hands file) → IfNone r ((file : FileNo) → ¬ CanTake b old.state file)
-  find_none eq law known (Some file) h = h
-  find_none eq law known None h = λ file can.
+some_there : {X : Type 0} (a : Bool) (xs : List X) → (not a && is_some_item xs) ≡ true → (x : X) × Contains xs x
+some_there true xs h = absurd (false≢true h)
+some_there false [] h = absurd (false≢true h)
+some_there false (x ∷ xs) h = (x, contains (x ∷ xs) x (inl refl))
+
+ready_some : {P : Type 0} (q : Queue P) → is_ready q ≡ true → (o : Obl P) × Contains (all_of q) o
+ready_some q r = some_there q.is_held (all_of q) r
+
+then_ready : {X : Type 0} (a : Bool) (xs : List X) (x : X) → (a ≡ true → ⊥) → Contains xs x → (not a && is_some_item xs) ≡ true
+then_ready true xs x free h = absurd (free refl)
+then_ready false [] x free h = absurd (has [] x h)
+then_ready false (y ∷ ys) x free h = refl
+
+ready_then : {P : Type 0} (q : Queue P) (o : Obl P) → (q.is_held ≡ true → ⊥) → Contains (all_of q) o → is_ready q ≡ true
+ready_then q o free h = then_ready q.is_held (all_of q) o free h
+
+-- the first in line can be taken, and where nothing stands in line no file can be
+module _ {P N T : Type 0} (b : Book P N T) (l old : LedgerView P N T) (seen : l ≡ old) (m : Marking P N) (em : m.items ≡ l.state.marks) (hands : List (Option (Hand P))) (k : IsQueued b m hands) (eh : hands ≡ l.state.hands) where
+  pub first_can : (file : FileNo) → (rest : List FileNo) × (m.line ≡ file ∷ rest) → CanTake b old.state file
+  first_can file first =
+      let ready : CanBeTaken m.queues file = (k.waiting.lined file).0 (subst (λ (z : List FileNo). Contains z file) (sym first.1) (contains (file ∷ first.0) file (inl refl))) in
+      let free : ¬ HandAt l.state.hands file = subst (λ (z : List (Option (Hand P))). ¬ HandAt z file) eh (λ h. ready_free ready.0 ready.2 ((k.holds file ready.0 ready.1).1 h)) in
+      let some = ready_some ready.0 ready.2 in
+      let waits = ((k.waiting.each file ready.0 ready.1).all some.0).0 some.1 in
+      let there : Contains l.state.marks (some.0, Untaken) = subst (λ (z : List (Obl P × Mark P N)). Contains z (some.0, Untaken)) em waits.0 in
+      subst (λ (z : LedgerView P N T). CanTake b z.state file) seen (free, (some.0, there, waits.1))
+
+  pub none_can : (eq : P → P → Bool) → IsBook eq b → ((o : Obl P) → HasKey l.state.marks o → o.fun.0 < b.functions) → m.line ≡ [] → (file : FileNo) → ¬ CanTake b old.state file
+  none_can eq law known none file can =
       let c : CanTake b l.state file = subst (λ (z : LedgerView P N T). CanTake b z.state file) (sym seen) can in
       let o = c.1.0 in
       let of : file_of_obl b o ≡ file = c.1.2 in
       let in_files : (file_of_obl b o).0 < b.files = law.files_there o.fun (known o (Untaken, c.1.1)) in
       let within : file.0 < b.files = subst (λ (z : FileNo). z.0 < b.files) of in_files in
-      let q = queue_at file (omega (arith, within, w.there)) in
+      let d : Queue P = record { back = []; fresh = []; is_held = false } in
+      let q = get_or m.queues file.0 d in
+      let at : slice_get m.queues file.0 ≡ Some q = slice_get-get_or m.queues file.0 d (omega (arith, within, k.waiting.there)) in
       let untaken : Contains m.items (o, Untaken) = subst (λ (z : List (Obl P × Mark P N)). Contains z (o, Untaken)) (sym em) c.1.1 in
-      h file (omega (arith, within, w.there)) (λ x. c.0 (subst (λ (z : List (Option (Hand P))). HandAt z file) eh x)) q.0 q.1 o ((w.each file q.0 q.1).complete o untaken of) untaken
+      let waits : Contains (all_of q) o = ((k.waiting.each file q at).all o).1 (untaken, of) in
+      let free : q.is_held ≡ true → ⊥ = λ t. c.0 (subst (λ (z : List (Option (Hand P))). HandAt z file) eh ((k.holds file q at).0 t)) in
+      has [] file (subst (λ (z : List FileNo). Contains z file) none ((k.waiting.lined file).1 (q, at, ready_then q o free waits)))
 
-pub held_also : {P N T : Type 0} (l old : LedgerView P N T) (q : l ≡ old) (hands : List (Option (Hand P))) (eh : hands ≡ l.state.hands) → (((file : FileNo) × HandAt hands file) → ((file : FileNo) × IsHeld old.state file)) × (((file : FileNo) × IsHeld old.state file) → ((file : FileNo) × HandAt hands file))
-held_also {P} {N} {T} l old q hands eh =
-    let is : hands ≡ old.state.hands = eh ∙ ap (λ (z : LedgerView P N T). z.state.hands) q in
-    (λ h. (h.0, subst (λ (z : List (Option (Hand P))). HandAt z h.0) is h.1), λ h. (h.0, subst (λ (z : List (Option (Hand P))). HandAt z h.0) (sym is) h.1))
+  pub line_some : (r : Option FileNo) → MatchOption r (m.line ≡ []) (λ file. (rest : List FileNo) × (m.line ≡ file ∷ rest)) → IfSome r (CanTake b old.state)
+  line_some None h = tt
+  line_some (Some file) h = first_can file h
+
+  pub line_none : (eq : P → P → Bool) → IsBook eq b → ((o : Obl P) → HasKey l.state.marks o → o.fun.0 < b.functions) → (r : Option FileNo) → MatchOption r (m.line ≡ []) (λ file. (rest : List FileNo) × (m.line ≡ file ∷ rest)) → IfNone r ((file : FileNo) → ¬ CanTake b old.state file)
+  line_none eq law known None h = none_can eq law known h
+  line_none eq law known (Some file) h = tt
+
+-- where no ticket was taken nothing has changed, and no file can be
+pub none_first : {P N T : Type 0} (b : Book P N T) (worker : ℕ) (old new : LedgerView P N T) (r : Option (TicketView P T)) → TakesFirst b worker old new r → r ≡ None → (file : FileNo) → ¬ CanTake b new.state file
+none_first {P} {N} {T} b worker old new (Some t) h q = absurd (cc)
+none_first {P} {N} {T} b worker old new None h q = λ file can. h.1 file (subst (λ (z : LedgerView P N T). CanTake b z.state file) h.0 can)

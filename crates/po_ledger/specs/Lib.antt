@@ -4,7 +4,6 @@ pub mod Empty
 pub mod Parts
 pub mod Answers
 pub mod Hands
-pub mod Indexed
 pub mod Made
 pub mod Shelves
 pub mod Queued

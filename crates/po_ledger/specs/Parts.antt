@@ -15,8 +15,6 @@ use Rattle.po_core.specs.declared.obl.Cause.TheVariants.{Primary, Support}
 use Rattle.po_core.specs.declared.obl.Obl.{Obl}
 use Rattle.po_core.specs.declared.obl.Verdict.{Verdict}
 use Rattle.po_ledger.specs.View.{items_of}
-use Rattle.po_marks.specs.Waiting.{Marking, all_of}
-use Rattle.po_marks.specs.declared.queue.Queue.{Queue}
 pub use Rattle.po_marks.specs.Known.{HasKey, HasVerdict, AddsUntaken, AddsEach, AreRemarked, primaries_of, primaries_below, supports_of}
 pub use Rattle.po_marks.specs.Waiting.{TakesFrom}
 
@@ -24,9 +22,9 @@ pub use Rattle.po_marks.specs.Waiting.{TakesFrom}
 abbrev pub HandAt : {P : Type 0} → List (Option (Hand P)) → FileNo → Type 0
 HandAt {P} hands file = (hand : Hand P) × (slice_get hands file.0 ≡ Some (Some hand))
 
--- the file is held, or nothing that waits in it is untaken
-abbrev pub IsIdle : {P N : Type 0} → Marking P N → List (Option (Hand P)) → FileNo → Type 0
-IsIdle {P} m hands file = (¬ HandAt hands file) → (q : Queue P) → slice_get m.queues file.0 ≡ Some q → (o : Obl P) → Contains (all_of q) o → ¬ Contains m.items (o, Untaken)
+-- each list of call sites is that of its function
+abbrev pub AreCallSites : {P N T : Type 0} → Book P N T → List (FunNo × List (FunNo × NodeNo)) → Type 0
+AreCallSites b kept = (f : FunNo) (sites : List (FunNo × NodeNo)) → Contains kept (f, sites) → sites ≡ b.call_sites f
 
 -- the item is there already, or is new at the end
 abbrev pub AddsItem : {X : Type 0} → List X → List X → X → Type 0

@@ -1,23 +1,11 @@
-ghost use Rattle.std.specs.Prelude.{◌≡◌, ◌↔◌, Some, slice_get, map, IsTrue, IfSome, IfNone};
+ghost use Rattle.std.specs.Prelude.{◌≡◌, ◌↔◌, map, IsTrue};
 ghost use Rattle.po_core.specs.Core.{AreApart};
-ghost use Rattle.po_ledger.specs.Parts.{HandAt, HasVerdict, AgreesOn, IsHandOf};
+ghost use Rattle.po_ledger.specs.Parts.{HasVerdict, AgreesOn, IsHandOf};
 ghost use Rattle.po_ledger.specs.View.{items_of};
 
 use crate::same::is_same;
-use po_base::FileNo;
 use po_core::{Hand, Obl, Rulebook};
 use po_marks::{Entries, has_verdict};
-
-/// The hand that holds a file, where it is held, in constant time.
-pub(crate) fn hand_at<P: Copy>(hands: &[Option<Hand<P>>], file: FileNo) -> Option<&Hand<P>>
-    ensures some { IfSome result (λ hand. slice_get hands.now file.0 ≡ Some (Some hand.now)) }
-    ensures none { IfNone result (¬ HandAt hands.now file) }
-{
-    match hands.get(file.0 as usize) {
-        Some(Some(hand)) => Some(hand),
-        _ => None,
-    }
-}
 
 /// Whether a hand that the ledger keeps is that of a worker's ticket. Time: the number of the ticket's obligations, on the average.
 pub(crate) fn is_hand_of<R: Rulebook>(

@@ -1,35 +1,31 @@
-ghost use Rattle.std.specs.Prelude.{◌≡◌, ◌↔◌, ◌<◌, [], ◌∷◌, ℕ, Bool, true, false, length, slice_set, IsTrue, IfOk, IfSome, IfNone, OnOk, OnErr, Some, slice_get};
-ghost use Rattle.std.specs.List.{Contains};
-ghost use Rattle.po_core.specs.Core.{IsHeld, IsInHand, IsKnown, IsQuiet, IsLegal, CanTake, IsAssumed};
+ghost use Rattle.std.specs.Prelude.{◌≡◌, ◌↔◌, ◌<◌, [], Bool, length, slice_set, IsTrue, IfOk, IfSome, IfNone, OnErr, OnOk};
 ghost use Rattle.po_base.specs.declared.numbers.FileNo.{FileNo};
-ghost use Rattle.po_core.specs.declared.event.Event.TheVariants.{Take, Post, Settle, Give, PutBack, Ask};
-ghost use Rattle.po_core.specs.declared.obl.Obl.{Obl};
-ghost use Rattle.po_core.specs.declared.obl.Verdict.TheVariants.{Delegated};
-ghost use Rattle.po_ledger.specs.Calls.{IsNew, Does, HandsOut, CanPost, PostsItem, CanSettle, SettlesItem, CanGive};
+ghost use Rattle.po_core.specs.Core.{CanTake, IsHeld, IsInHand, IsKnown, IsLegal, IsQuiet, IsUntaken};
 ghost use Rattle.po_core.specs.Least.{IsLeastReport};
-ghost use Rattle.po_ledger.specs.Answers.{Answers, Reports};
-ghost use Rattle.po_ledger.specs.Shelves.{AnswersTables, HandsTables};
+ghost use Rattle.po_core.specs.declared.event.Event.TheVariants.{Ask, Give, PutBack};
+ghost use Rattle.po_core.specs.declared.obl.Obl.{Obl};
+ghost use Rattle.po_ledger.specs.Answers.{Answers, Reports, TakesFirst};
+ghost use Rattle.po_ledger.specs.Calls.{CanGive, CanPost, CanSettle, Counts, Does, IsNew, PostsItem, SettlesItem};
+ghost use Rattle.po_ledger.specs.Shelves.{AnswersTables};
 ghost use Rattle.po_ledger.specs.View.{Fits, IsLedger};
 
-use crate::assumed::Assumed;
-use crate::fitting::{hand_at, is_hand_of};
-use crate::log::{Log, append, into_events, make_room, no_events};
+use crate::assumed::{Assumptions, assume};
+use crate::call_sites::CallSites;
+use crate::fitting::is_hand_of;
+use crate::hands::{free_hand, hand_at, is_held, no_hands, one_more, set_hand};
+use crate::log::{Log, append, into_events, make_room, no_events, take_room};
 use crate::naming::Naming;
 use crate::next::{Next, ReportFail};
-use crate::parts::{
-    any_held, empty_shelves, extend, free_hand, is_held, no_hands, set_hand, swap_shelf, takeable,
-};
-use crate::report::{
-    ascending_assumptions, ascending_lines, held_count, is_some_left, untaken_count,
-};
-use crate::shelf::Tables;
+use crate::per_function::PerFunction;
+use crate::report::{ascending_assumptions, ascending_lines, is_some_left};
+use crate::shelves::{clear_shelf, empty_shelves, swap_shelf};
 use crate::ticket::Ticket;
+use indexmap::IndexSet;
 use po_base::{FileNo, Memory};
 use po_core::{
-    Event, Hand, Journal, Obl, Report, Rulebook, Verdict, legal_lists_are_orderly,
-    quiet_lists_are_least,
+    Event, Hand, Journal, Report, Rulebook, Verdict, legal_lists_are_orderly, quiet_lists_are_least,
 };
-use po_marks::{Drawn, Entries, Marks, draw, first_marks, put_back, room_to_draw, settle};
+use po_marks::{Drawn, Entries, Marks, draw, first_marks, free, put_back, room_to_draw, settle};
 use std::alloc::Global;
 use std::marker::{Model, PhantomData};
 
@@ -46,21 +42,25 @@ pub struct Ledger<'r, R: Rulebook, J: Naming<R::Pred, R::Rule, R::Table>> {
     book: &'r R,
     marks: Marks<R::Pred, R::Rule>,
     hands: Vec<Option<Hand<R::Pred>>>,
-    assumed: Assumed<R::Pred>,
-    shelves: Vec<Tables<R::Table>>,
+    held: u32,
+    assumed: Assumptions<R::Pred>,
+    call_sites: CallSites,
+    shelves: Vec<PerFunction<R::Table>>,
     journal: Log<R::Pred, R::Rule>,
     named: PhantomData<J>,
 }
 
 impl<'r, R: Rulebook, J: Naming<R::Pred, R::Rule, R::Table>> Model for Ledger<'r, R, J> {
+    ghost use Rattle.po_ledger.specs.Calls.{Counts};
+    ghost use Rattle.po_ledger.specs.Parts.{AreCallSites, HandAt};
     ghost use Rattle.po_ledger.specs.Queued.{IsQueued};
     ghost use Rattle.po_ledger.specs.View.{LedgerView, view_of, IsKept};
 
     ghost Value = { LedgerView R.Pred R.Rule R.Table };
 
-    ghost view = { λ l. view_of l.marks.items l.hands.items l.assumed.items l.journal.items l.journal.spare l.shelves.items };
+    ghost view = { λ l. view_of l.marks.items l.hands.items l.assumed.keys l.journal.items l.journal.spare l.shelves.items };
 
-    ghost invariant = { λ l. IsKept J.book (R.meaning l.book.now) (view_of l.marks.items l.hands.items l.assumed.items l.journal.items l.journal.spare l.shelves.items) l.shelves.items × IsQueued J.book l.marks l.hands.items };
+    ghost invariant = { λ l. IsKept J.book (R.meaning l.book.now) (view_of l.marks.items l.hands.items l.assumed.keys l.journal.items l.journal.spare l.shelves.items) l.shelves.items × IsQueued J.book l.marks l.hands.items × Counts (HandAt l.hands.items) l.held × AreCallSites (R.meaning l.book.now) l.call_sites };
 }
 
 impl<'r, R: Rulebook, J: Naming<R::Pred, R::Rule, R::Table>> Ledger<'r, R, J> {
@@ -77,7 +77,9 @@ impl<'r, R: Rulebook, J: Naming<R::Pred, R::Rule, R::Table>> Ledger<'r, R, J> {
             book,
             marks,
             hands,
-            assumed: Assumed::new(alloc),
+            held: 0,
+            assumed: IndexSet::new(alloc),
+            call_sites: PerFunction::new(alloc),
             shelves,
             journal: no_events(alloc),
             named: PhantomData,
@@ -142,19 +144,17 @@ impl<'r, R: Rulebook, J: Naming<R::Pred, R::Rule, R::Table>> Ledger<'r, R, J> {
     }
 
     /// Gives a worker all that is untaken in some file, which it holds from then on; or says that it has to wait,
-    /// as some file is held and no other has untaken obligations; or that all is done. After `Memory` nothing has
-    /// changed. Time: the number of the obligations that it hands out, of those that were put back in the file and settled
-    /// since, and of files.
+    /// as some file is held and no other has untaken obligations; or that all is done. The file is the one that could be
+    /// taken for the longest time. After `Memory` nothing has changed. Time: the number of the obligations that it hands out,
+    /// and else constant.
     pub fn take(&mut self, alloc: Global, worker: u8) -> Result<Next<R, J>, Memory>
         ensures ok { IfOk result (Answers J.book worker self.old self.new) }
         ensures err { OnErr result (self.new ≡ self.old) }
         ensures tables { IfOk result (AnswersTables self.old self.new) }
     {
-        match self.find_file() {
-            Some(file) => {
-                let ticket = self.take_file(alloc, worker, file)?;
-                Ok(Next::Ticket(ticket))
-            }
+        let first = self.take_first(alloc, worker)?;
+        match first {
+            Some(ticket) => Ok(Next::Ticket(ticket)),
             None => {
                 if self.some_held() {
                     self.ask(worker, false)?;
@@ -166,30 +166,30 @@ impl<'r, R: Rulebook, J: Naming<R::Pred, R::Rule, R::Table>> Ledger<'r, R, J> {
         }
     }
 
-    /// A file that can be taken, where there is one.
-    fn find_file(&self) -> Option<FileNo>
+    /// The file that could be taken for the longest time, where one can be, in constant time.
+    fn first_in_line(&self) -> Option<FileNo>
         ensures some { IfSome result (CanTake J.book self.now.state) }
         ensures none { IfNone result ((file : FileNo) → ¬ CanTake J.book self.now.state file) }
     {
         legal_lists_are_orderly(self.book);
-        takeable(self.book, &self.marks, self.hands.as_slice())
+        self.marks.first_in_line()
     }
 
-    /// Whether some file is held.
+    /// Whether some file is held, in constant time.
     fn some_held(&self) -> bool
         ensures { IsTrue result ↔ ((file : FileNo) × IsHeld self.now.state file) }
     {
-        any_held(self.hands.as_slice())
+        self.held > 0
     }
 
-    /// Whether all is done: no file is held and nothing is untaken. It takes no memory. Time: the number of files.
+    /// Whether all is done: no file is held and nothing is untaken. It takes no memory, and constant time.
     pub fn quiet(&self) -> bool
         ensures { IsTrue result ↔ IsQuiet self.now.state }
     {
         if self.some_held() {
             return false;
         }
-        match self.find_file() {
+        match self.first_in_line() {
             Some(_) => false,
             None => true,
         }
@@ -197,16 +197,24 @@ impl<'r, R: Rulebook, J: Naming<R::Pred, R::Rule, R::Table>> Ledger<'r, R, J> {
 
     /// The least report of the rulebook, where all is done. `NotQuiet` comes where it isn't, with the number of files
     /// that are held and of obligations that are untaken. The ledger stays as it is; its lists are copied for the
-    /// report alone. Time: the number of files, and that of sorting the known obligations.
+    /// report alone. Time: that of sorting the known obligations and the assumptions, or constant where it isn't quiet.
     pub fn report(&self, alloc: Global) -> Result<Report<R::Pred, R::Rule>, ReportFail>
         ensures { Reports J.book R.Pred.cmp self.now.state result }
     {
-        let held = held_count(self.hands.as_slice(), self.book.files());
-        let untaken = untaken_count(self.marks.known());
+        let held = self.held;
+        let untaken = self.untaken_count();
         if is_some_left(held, untaken) {
             return Err(ReportFail::NotQuiet { held, untaken });
         }
         Ok(self.least_report(alloc)?)
+    }
+
+    /// How many obligations are untaken, in constant time.
+    fn untaken_count(&self) -> u64
+        ensures { Counts (IsUntaken self.now.state) result }
+    {
+        legal_lists_are_orderly(self.book);
+        self.marks.waiting_count() as u64
     }
 
     /// The least report, of a ledger that is quiet.
@@ -221,14 +229,15 @@ impl<'r, R: Rulebook, J: Naming<R::Pred, R::Rule, R::Table>> Ledger<'r, R, J> {
         Ok(Report { lines, assumptions })
     }
 
-    /// Takes a file that can be taken.
-    fn take_file(&mut self, alloc: Global, worker: u8, file: FileNo) -> Result<Ticket<R, J>, Memory>
-        requires { CanTake J.book self.old.state file }
-        ensures ok { IfOk result (HandsOut J.book worker self.old self.new) }
+    /// Takes the file that could be taken for the longest time, where one can be.
+    fn take_first(&mut self, alloc: Global, worker: u8) -> Result<Option<Ticket<R, J>>, Memory>
+        ensures ok { IfOk result (TakesFirst J.book worker self.old self.new) }
         ensures err { OnErr result (self.new ≡ self.old) }
-        ensures tables { IfOk result (HandsTables self.old self.new) }
     {
         legal_lists_are_orderly(self.book);
+        let Some(file) = self.marks.first_in_line() else {
+            return Ok(None);
+        };
         let (count, mut drawn) = room_to_draw(alloc, &self.marks, file)?;
         make_room(&mut self.journal, count, 3)?;
         draw(alloc, self.book, &mut self.marks, file, &mut drawn);
@@ -236,14 +245,15 @@ impl<'r, R: Rulebook, J: Naming<R::Pred, R::Rule, R::Table>> Ledger<'r, R, J> {
         let items = items.into_list();
         append(&mut self.journal, Event::Take { worker, file });
         set_hand(&mut self.hands, file, Some(Hand { worker, items }));
-        let tables = swap_shelf(&mut self.shelves, file, Tables::new(alloc));
-        Ok(Ticket {
+        self.held = one_more(self.held, self.book.files());
+        let tables = swap_shelf(&mut self.shelves, file, PerFunction::new(alloc));
+        Ok(Some(Ticket {
             worker,
             file,
             hand: hand.into_list(),
             tables,
             named: PhantomData,
-        })
+        }))
     }
 
     /// Puts into the journal that a worker asked for work and there was none.
@@ -260,7 +270,8 @@ impl<'r, R: Rulebook, J: Naming<R::Pred, R::Rule, R::Table>> Ledger<'r, R, J> {
 
     /// Assumes the predicate `q` of the function of an item of a ticket, whose verdict delegates to it: each call
     /// of the function has its supporting obligation afterwards, and those that are new are untaken. After
-    /// `Memory` nothing has changed. Time: the logarithm of the number of assumptions, and the number of the calls.
+    /// `Memory` nothing has changed. Time: constant where the predicate was assumed before, and else the number of the calls.
+    /// The rulebook is asked for a function's calls once.
     pub fn post(
         &mut self,
         alloc: Global,
@@ -279,14 +290,13 @@ impl<'r, R: Rulebook, J: Naming<R::Pred, R::Rule, R::Table>> Ledger<'r, R, J> {
         let obl = *t.item(k);
         let file = t.file();
         let pred = *q;
-        let sites = self.book.call_sites(alloc, obl.fun)?;
-        let known = self.marks.known().len();
-        match extend(
+        make_room(&mut self.journal, 0, 1)?;
+        match assume(
+            alloc,
             self.book,
             &mut self.marks,
             &mut self.assumed,
-            &mut self.journal,
-            sites.as_slice(),
+            &mut self.call_sites,
             obl.fun,
             pred,
         ) {
@@ -295,7 +305,7 @@ impl<'r, R: Rulebook, J: Naming<R::Pred, R::Rule, R::Table>> Ledger<'r, R, J> {
                 Ok(())
             }
             Err(Memory) => {
-                self.marks.truncate(known);
+                take_room(&mut self.journal);
                 Err(Memory)
             }
         }
@@ -335,20 +345,25 @@ impl<'r, R: Rulebook, J: Naming<R::Pred, R::Rule, R::Table>> Ledger<'r, R, J> {
         let file = t.file();
         let tables = t.into_tables();
         set_hand(&mut self.hands, file, None);
+        self.held -= 1;
+        free(self.book, &mut self.marks, file);
         let _before = swap_shelf(&mut self.shelves, file, tables);
         append(&mut self.journal, Event::Give { worker, file });
     }
 
-    /// Makes a file free, whoever holds it: what isn't settled of its hand is untaken again. A ticket of the file
-    /// doesn't fit from then on, at least until its worker holds the file again. It takes no memory. Time: the number of the
-    /// obligations of the hand that held it.
+    /// Makes a file free, whoever holds it: what isn't settled of its hand is untaken again, and no tables are kept for it. A
+    /// ticket of the file doesn't fit from then on, at least until its worker holds the file again. It takes no memory. Time: the
+    /// number of the obligations of the hand that held it, beside letting go of tables.
     pub fn put_back(&mut self, file: FileNo)
         requires { IsHeld self.old.state file }
-        ensures { Does J.book (PutBack file) self.old self.new }
+        ensures does { Does J.book (PutBack file) self.old self.new }
+        ensures tables { self.new.tables ≡ slice_set self.old.tables file.0 [] }
     {
         legal_lists_are_orderly(self.book);
         let Hand { items, .. } = free_hand(&mut self.hands, file);
+        self.held -= 1;
         put_back(self.book, &mut self.marks, file, items);
+        clear_shelf(&mut self.shelves, file);
         append(&mut self.journal, Event::PutBack { file });
     }
 }

@@ -4,16 +4,18 @@
 #![tactic(auto)]
 
 mod assumed;
+mod call_sites;
 mod fitting;
+mod hands;
 mod ledger;
 mod log;
 mod naming;
 mod next;
-mod parts;
+mod per_function;
 mod report;
 mod same;
 mod settling;
-mod shelf;
+mod shelves;
 mod ticket;
 
 pub use ledger::Ledger;

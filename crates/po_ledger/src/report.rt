@@ -1,60 +1,18 @@
-ghost use Rattle.std.specs.Prelude.{◌≡◌, ◌↔◌, ◌<◌, ◌+◌, length, map, IfOk, OnOk, IsTrue};
+ghost use Rattle.std.specs.Prelude.{◌≡◌, ◌↔◌, ◌<◌, ◌+◌, map, IfOk, OnOk, IsTrue};
 ghost use Rattle.std.specs.List.{Contains, AllPairs};
 ghost use Rattle.std.specs.declared.cmp.Ordering.TheVariants.{Less};
 ghost use Rattle.po_core.specs.Core.{AreApart};
 ghost use Rattle.po_core.specs.Order.{assumption_cmp, obl_cmp};
-ghost use Rattle.po_core.specs.declared.event.Mark.TheVariants.{Untaken};
-ghost use Rattle.po_ledger.specs.Calls.{Counts};
-ghost use Rattle.po_ledger.specs.Parts.{AddsLine, AreLines, AreSame, AreSorted, HandAt, ListsVerdicts};
+ghost use Rattle.po_ledger.specs.Parts.{AddsLine, AreLines, AreSame, AreSorted, ListsVerdicts};
 
-use crate::parts::is_held;
-use po_base::{FileNo, FunNo, List, Memory};
-use po_core::{Hand, Mark, Obl, Rulebook, Verdict};
+use po_base::{FunNo, List, Memory};
+use po_core::{Mark, Obl, Rulebook, Verdict};
 use po_marks::{Entries, entry_at};
 use std::alloc::Global;
 use std::hash::Hash;
 
 /// A line of a report: an obligation with its verdict.
 type Line<P, N> = (Obl<P>, Verdict<P, N>);
-
-/// How many files are held. Time: the number of files.
-pub(crate) fn held_count<P: Copy>(hands: &[Option<Hand<P>>], files: u32) -> u32
-    requires { length hands.now ≡ files }
-    ensures { Counts (HandAt hands.now) result }
-{
-    let mut held = 0;
-    for number in 0..files {
-        if is_held(hands, FileNo(number)) {
-            held += 1;
-        }
-    }
-    held
-}
-
-/// Whether a mark says that an obligation is untaken.
-fn is_untaken<P: Copy, N: Copy>(mark: Mark<P, N>) -> bool
-    ensures { IsTrue result ↔ (mark ≡ Untaken) }
-{
-    match mark {
-        Mark::Untaken => true,
-        _ => false,
-    }
-}
-
-/// How many obligations are untaken. Time: the number of known obligations.
-pub(crate) fn untaken_count<P: Copy + Eq + Hash, N: Copy>(marks: &Entries<P, N>) -> u64
-    requires { AreApart (map (λ e. e.0) marks.now.entries) }
-    ensures { Counts (λ o. Contains marks.now.entries (o, Untaken)) result }
-{
-    let mut untaken = 0;
-    for i in 0..marks.len() {
-        let entry = entry_at(marks, i);
-        if is_untaken(entry.1) {
-            untaken += 1;
-        }
-    }
-    untaken
-}
 
 /// Whether one of two counts isn't 0.
 pub(crate) fn is_some_left(held: u32, untaken: u64) -> bool

@@ -5,7 +5,7 @@ ghost use Rattle.po_ledger.specs.Made.{AddsTable, HasTable};
 ghost use Rattle.po_ledger.specs.View.{AreTables};
 
 use crate::naming::Naming;
-use crate::shelf::Tables;
+use crate::per_function::PerFunction;
 use po_base::{FileNo, FunNo, List, Memory};
 use po_core::{Obl, Rulebook, Verdict};
 use std::alloc::Global;
@@ -18,7 +18,7 @@ pub struct Ticket<R: Rulebook, J: Naming<R::Pred, R::Rule, R::Table>> {
     pub(crate) worker: u8,
     pub(crate) file: FileNo,
     pub(crate) hand: List<(Obl<R::Pred>, bool)>,
-    pub(crate) tables: Tables<R::Table>,
+    pub(crate) tables: PerFunction<R::Table>,
     pub(crate) named: PhantomData<J>,
 }
 
@@ -71,7 +71,7 @@ impl<R: Rulebook, J: Naming<R::Pred, R::Rule, R::Table>> Ticket<R, J> {
     }
 
     /// The tables that were made so far, each that of its function.
-    pub(crate) fn into_tables(self) -> Tables<R::Table>
+    pub(crate) fn into_tables(self) -> PerFunction<R::Table>
         ensures right { AreTables J.book result }
         ensures all { result ≡ self.tables }
     {
@@ -113,7 +113,7 @@ impl<R: Rulebook, J: Naming<R::Pred, R::Rule, R::Table>> Ticket<R, J> {
 fn table_place<R: Rulebook>(
     alloc: Global,
     book: &R,
-    tables: &mut Tables<R::Table>,
+    tables: &mut PerFunction<R::Table>,
     f: FunNo,
 ) -> Result<usize, Memory>
     requires there { f.0 < (R.meaning book.now).functions }
@@ -132,7 +132,7 @@ fn table_place<R: Rulebook>(
 fn make_table<R: Rulebook>(
     alloc: Global,
     book: &R,
-    tables: &mut Tables<R::Table>,
+    tables: &mut PerFunction<R::Table>,
     f: FunNo,
 ) -> Result<usize, Memory>
     requires there { f.0 < (R.meaning book.now).functions }
@@ -153,12 +153,12 @@ fn verdict_at<R: Rulebook>(
     alloc: Global,
     book: &R,
     obl: &Obl<R::Pred>,
-    tables: &Tables<R::Table>,
+    tables: &PerFunction<R::Table>,
     at: usize,
 ) -> Result<Verdict<R::Pred, R::Rule>, Memory>
     requires right { AreTables (R.meaning book.now) tables.now }
     requires found { (table : R.Table) × (slice_get tables.now at ≡ Some (obl.now.fun, table)) }
     ensures { IfOk result (λ v. v ≡ (R.meaning book.now).verdict_of obl.now) }
 {
-    book.verdict(alloc, obl, tables.table(at))
+    book.verdict(alloc, obl, tables.value(at))
 }

@@ -3,10 +3,10 @@ use Rattle.std.proofs.Common.{◌≡◌, ℕ, Bool, true, false, cond, List, [],
 use Rattle.std.specs.Prelude.{Option, Some, None, ◌==◌, ◌&&◌, ◌||◌, not}
 use Rattle.std.proofs.lemmas.Bool.{eqb-true, eq-eqb}
 use Rattle.po_base.specs.declared.token.Token.{Token}
-use Rattle.po_lex.specs.Brackets.{State, outset, step, behind_mark, brackets, pop, ends, ends_in, mark, closer, is_closer}
+use Rattle.po_lex.specs.Brackets.{State, outset, step, behind_mark, pop, ends, ends_in, mark, closer, is_closer}
 use Rattle.po_lex.specs.Balance.{is_bracket, Matches, Balanced, no_token, and_token, and_group, steps}
 use Rattle.po_lex.specs.Pieces.{goes, IsPiece}
-use Rattle.po_lex.specs.declared.walk.Open.{Open}
+use Rattle.po_lex.specs.declared.nesting.Open.{Open}
 
 steps-append : (s : Option State) (xs ys : List Token) → steps s (xs ++ ys) ≡ steps (steps s xs) ys
 steps-append s [] ys = refl

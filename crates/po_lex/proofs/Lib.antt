@@ -2,7 +2,7 @@ mod Rows
 mod Directives
 mod Parts
 mod Fronts
-mod Walks
+mod Nestings
 mod Remains
 mod Widths
 mod Unique
@@ -15,3 +15,4 @@ mod Tables
 mod Words
 mod Texts
 mod Balance
+mod Markers

@@ -8,13 +8,13 @@ use Rattle.std.proofs.lemmas.List.Recursion.{is_count_by}
 use Rattle.std.proofs.lemmas.List.{take_more, drop_more, take-append-drop, append_cancel_right}
 use Rattle.po_lex.specs.Bytes.{newlines, is_gap, is_blank}
 use Rattle.po_lex.specs.Rows.{goes_on, behind, skip}
-use Rattle.po_lex.specs.Leads.{beginning, lead_of, opening, row_of, closing, lines, signs, longest}
+use Rattle.po_lex.specs.PartKinds.{part_kind_at, part_kind_of, opening, row_of, closing, lines, signs, longest}
 use Rattle.po_lex.specs.Division.{freshly, Stands}
 use Rattle.po_lex.specs.declared.effect.Effect.TheVariants as e
 use Rattle.po_lex.specs.declared.row.Row.{Row}
 use Rattle.po_lex.specs.declared.row.Row.TheVariants as r
-use Rattle.po_lex.specs.declared.lead.Lead.{Lead}
-use Rattle.po_lex.specs.declared.lead.Lead.TheVariants as l
+use Rattle.po_lex.specs.declared.part_kind.PartKind.{PartKind}
+use Rattle.po_lex.specs.declared.part_kind.PartKind.TheVariants as l
 
 freshly_last : (fresh : Bool) (xs : List ℕ) (c : ℕ) → freshly fresh (xs ++ (c ∷ [])) ≡ ((c == 10) || (is_gap c && freshly fresh xs))
 freshly_last fresh [] c = refl
@@ -63,12 +63,12 @@ ends_row row before (c ∷ cs) none =
     ] refl
 
 -- no newline begins what isn't a blank
-no_newline : (c d : ℕ) → (beginning c d ≡ l.Blank → ⊥) → c ≡ 10 → ⊥
+no_newline : (c d : ℕ) → (part_kind_at c d ≡ l.Blank → ⊥) → c ≡ 10 → ⊥
 no_newline c d other e = other (rw e refl)
 
 -- a part with one byte before such a row, and with no newline behind it, ends no line
 lineless : (kind : Row) (close : List ℕ) (bytes : List ℕ) (end : ℕ) → ((b : ℕ) → goes_on kind b 10 ≡ false) → newlines close ≡ 0 →
-    (lead_of bytes ≡ l.Blank → ⊥) → 1 ≤ length bytes → skip kind 0 (drop 1 bytes) ≡ close ++ drop end bytes → 0 ≡ newlines (take end bytes)
+    (part_kind_of bytes ≡ l.Blank → ⊥) → 1 ≤ length bytes → skip kind 0 (drop 1 bytes) ≡ close ++ drop end bytes → 0 ≡ newlines (take end bytes)
 lineless kind close [] end none closed other some ended = absurd (omega arith)
 lineless kind close (c ∷ cs) end none closed other some ended =
     let all : ends (take end (c ∷ cs)) + ends (drop end (c ∷ cs)) ≡ ends (c ∷ cs) =
@@ -120,30 +120,30 @@ sign_lines bytes end ended =
     append_cancel_right (take o bytes) (take end bytes) (drop end bytes) (ap (λ v. take o bytes ++ v) (sym same) ∙ take-append-drop o bytes ∙ sym (take-append-drop end bytes)) in
     sym (longest_lineless signs bytes refl) ∙ ap newlines text
 
-pub lines_so : (lead : Lead) (bytes : List ℕ) (end : ℕ) → lead ≡ lead_of bytes → opening lead bytes ≤ length bytes →
-    skip (row_of lead) 0 (drop (opening lead bytes) bytes) ≡ closing lead ++ drop end bytes → lines lead (take end bytes) ≡ newlines (take end bytes)
+pub lines_so : (part_kind : PartKind) (bytes : List ℕ) (end : ℕ) → part_kind ≡ part_kind_of bytes → opening part_kind bytes ≤ length bytes →
+    skip (row_of part_kind) 0 (drop (opening part_kind bytes) bytes) ≡ closing part_kind ++ drop end bytes → lines part_kind (take end bytes) ≡ newlines (take end bytes)
 lines_so l.Word bytes end q within ended = lineless r.Word [] bytes end (λ b. refl) refl (λ e. let bad : l.Word ≡ l.Blank = q ∙ e in absurd (cc)) within ended
 lines_so l.Number bytes end q within ended = lineless r.Number [] bytes end (λ b. refl) refl (λ e. let bad : l.Number ≡ l.Blank = q ∙ e in absurd (cc)) within ended
 lines_so l.Char bytes end q within ended = lineless (r.Literal 39) (39 ∷ []) bytes end (λ b. refl) refl (λ e. let bad : l.Char ≡ l.Blank = q ∙ e in absurd (cc)) within ended
 lines_so l.Str bytes end q within ended = lineless (r.Literal 34) (34 ∷ []) bytes end (λ b. refl) refl (λ e. let bad : l.Str ≡ l.Blank = q ∙ e in absurd (cc)) within ended
 lines_so l.Directive bytes end q within ended = lineless r.Line [] bytes end (λ b. refl) refl (λ e. let bad : l.Directive ≡ l.Blank = q ∙ e in absurd (cc)) within ended
 lines_so l.Blank bytes end q within ended = refl
-lines_so l.Joined bytes end q within ended = refl
+lines_so l.Splice bytes end q within ended = refl
 lines_so l.Comment bytes end q within ended = refl
-lines_so l.Remark bytes end q within ended = refl
-lines_so l.Sign bytes end q within ended = sign_lines bytes end ended
+lines_so l.LineComment bytes end q within ended = refl
+lines_so l.Punctuator bytes end q within ended = sign_lines bytes end ended
 
 -- a blank stands by itself
 pub blank_stands : (fresh : Bool) (file : List ℕ) (at : ℕ) → at < length file → is_blank (get_or file at 0) ≡ true →
-    Stands fresh (drop at file) (record { lead = l.Blank; text = get_or file at 0 ∷ []; effect = e.Silent }) (drop (at + 1) file)
+    Stands fresh (drop at file) (record { part_kind = l.Blank; text = get_or file at 0 ∷ []; effect = e.Silent }) (drop (at + 1) file)
 blank_stands fresh file at some h =
     let c : ℕ = get_or file at 0 in
     let cs : List ℕ = drop (at + 1) file in
-    subst (λ v. Stands fresh v (record { lead = l.Blank; text = c ∷ []; effect = e.Silent }) cs) (sym (drop_more file at 0 some)) (record {
+    subst (λ v. Stands fresh v (record { part_kind = l.Blank; text = c ∷ []; effect = e.Silent }) cs) (sym (drop_more file at 0 some)) (record {
       whole = refl;
       begun = sym (rw h refl);
       some = omega arith;
       within = omega arith;
       ended = skip_nothing cs;
-      said = refl;
+      part_effect = refl;
     })

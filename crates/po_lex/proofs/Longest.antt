@@ -6,12 +6,12 @@ use Rattle.std.specs.List.{starts_with}
 use Rattle.std.proofs.lemmas.Slice.Eq.{bytes_eq-Decides}
 use Rattle.std.proofs.lemmas.List.{append_cancel_left, drop-append-le, take-append-le, length-drop, length-take}
 use Rattle.po_lex.specs.Rows.{goes_on, behind, skip}
-use Rattle.po_lex.specs.Leads.{lead_of, opening, row_of, closing, signs, longest}
+use Rattle.po_lex.specs.PartKinds.{part_kind_of, opening, row_of, closing, signs, longest}
 use Rattle.po_lex.specs.Division.{Part, Stands}
 use Rattle.po_lex.specs.declared.row.Row.{Row}
 use Rattle.po_lex.specs.declared.row.Row.TheVariants as r
-use Rattle.po_lex.specs.declared.lead.Lead.{Lead}
-use Rattle.po_lex.specs.declared.lead.Lead.TheVariants as l
+use Rattle.po_lex.specs.declared.part_kind.PartKind.{PartKind}
+use Rattle.po_lex.specs.declared.part_kind.PartKind.TheVariants as l
 
 -- a row leaves no more than there was
 skip_short : (row : Row) (before : ℕ) (xs : List ℕ) → length (skip row before xs) ≤ length xs
@@ -82,20 +82,20 @@ skip_nothing : (xs : List ℕ) → skip r.Nothing 0 xs ≡ xs
 skip_nothing [] = refl
 skip_nothing (c ∷ cs) = refl
 
--- what comes after a part is no longer than what comes after a text of the same lead that is a part by itself
-same_lead : (lead : Lead) (text left rest : List ℕ) → opening lead text ≤ length text →
-    skip (row_of lead) 0 (drop (opening lead text) text) ≡ closing lead ++ [] →
-    skip (row_of lead) 0 (drop (opening lead (text ++ left)) (text ++ left)) ≡ closing lead ++ rest → length rest ≤ length left
+-- what comes after a part is no longer than what comes after a text of the same part_kind that is a part by itself
+same_lead : (part_kind : PartKind) (text left rest : List ℕ) → opening part_kind text ≤ length text →
+    skip (row_of part_kind) 0 (drop (opening part_kind text) text) ≡ closing part_kind ++ [] →
+    skip (row_of part_kind) 0 (drop (opening part_kind (text ++ left)) (text ++ left)) ≡ closing part_kind ++ rest → length rest ≤ length left
 same_lead l.Blank text left rest w a m = rest_short r.Nothing 1 [] text left rest w a m
-same_lead l.Joined text left rest w a m = rest_short r.Nothing 2 [] text left rest w a m
+same_lead l.Splice text left rest w a m = rest_short r.Nothing 2 [] text left rest w a m
 same_lead l.Comment text left rest w a m = rest_short r.Comment 2 (47 ∷ []) text left rest w a m
-same_lead l.Remark text left rest w a m = rest_short r.Line 2 [] text left rest w a m
+same_lead l.LineComment text left rest w a m = rest_short r.Line 2 [] text left rest w a m
 same_lead l.Word text left rest w a m = rest_short r.Word 1 [] text left rest w a m
 same_lead l.Number text left rest w a m = rest_short r.Number 1 [] text left rest w a m
 same_lead l.Char text left rest w a m = rest_short (r.Literal 39) 1 (39 ∷ []) text left rest w a m
 same_lead l.Str text left rest w a m = rest_short (r.Literal 34) 1 (34 ∷ []) text left rest w a m
 same_lead l.Directive text left rest w a m = rest_short r.Line 1 [] text left rest w a m
-same_lead l.Sign text left rest w a m =
+same_lead l.Punctuator text left rest w a m =
     let n : ℕ = longest signs text in
     let k : ℕ = longest signs (text ++ left) in
     let grows : n ≤ k = longest_grows signs text left in
@@ -108,17 +108,17 @@ same_lead l.Sign text left rest w a m =
 
 not_empty : (fresh : Bool) (bytes : List ℕ) (x : Part) (rest : List ℕ) → Stands fresh bytes x rest → 0 < length x.text
 not_empty fresh bytes x rest h =
-    let o : ℕ = opening x.lead bytes in
+    let o : ℕ = opening x.part_kind bytes in
     let a : length (drop o bytes) ≡ length bytes - o = length-drop o bytes in
-    let b : length (skip (row_of x.lead) 0 (drop o bytes)) ≤ length (drop o bytes) = skip_short (row_of x.lead) 0 (drop o bytes) in
-    let c : length (skip (row_of x.lead) 0 (drop o bytes)) ≡ length (closing x.lead) + length rest = ap length h.ended ∙ length-append (closing x.lead) rest in
+    let b : length (skip (row_of x.part_kind) 0 (drop o bytes)) ≤ length (drop o bytes) = skip_short (row_of x.part_kind) 0 (drop o bytes) in
+    let c : length (skip (row_of x.part_kind) 0 (drop o bytes)) ≡ length (closing x.part_kind) + length rest = ap length h.ended ∙ length-append (closing x.part_kind) rest in
     let d : length bytes ≡ length x.text + length rest = ap length h.whole ∙ length-append x.text rest in
     let e : 0 < o = h.some in
     let f : o ≤ length bytes = h.within in
     omega arith
 
 -- the first two bytes of a text are those of the bytes that it begins
-lead_same : (text left : List ℕ) → 1 < length text → lead_of (text ++ left) ≡ lead_of text
+lead_same : (text left : List ℕ) → 1 < length text → part_kind_of (text ++ left) ≡ part_kind_of text
 lead_same [] left h = absurd (omega arith)
 lead_same (c ∷ []) left h = absurd (omega arith)
 lead_same (c ∷ d ∷ cs) left h = refl
@@ -128,11 +128,11 @@ pub no_longer : (fresh : Bool) (bytes : List ℕ) (x y : Part) (rest left : List
 no_longer fresh bytes x y rest left h k e (inl small) =
     let some : 0 < length x.text = not_empty fresh bytes x rest h in omega arith
 no_longer fresh bytes x y rest left h k e (inr long) =
-    let lead : x.lead ≡ y.lead = h.begun ∙ ap lead_of e ∙ lead_same y.text left long ∙ sym k.begun in
-    let ended : skip (row_of y.lead) 0 (drop (opening y.lead (y.text ++ left)) (y.text ++ left)) ≡ closing y.lead ++ rest =
-    subst (λ v. skip (row_of y.lead) 0 (drop (opening y.lead v) v) ≡ closing y.lead ++ rest) e
-    (subst (λ v. skip (row_of v) 0 (drop (opening v bytes) bytes) ≡ closing v ++ rest) lead h.ended) in
-    let short : length rest ≤ length left = same_lead y.lead y.text left rest k.within k.ended ended in
+    let part_kind : x.part_kind ≡ y.part_kind = h.begun ∙ ap part_kind_of e ∙ lead_same y.text left long ∙ sym k.begun in
+    let ended : skip (row_of y.part_kind) 0 (drop (opening y.part_kind (y.text ++ left)) (y.text ++ left)) ≡ closing y.part_kind ++ rest =
+    subst (λ v. skip (row_of y.part_kind) 0 (drop (opening y.part_kind v) v) ≡ closing y.part_kind ++ rest) e
+    (subst (λ v. skip (row_of v) 0 (drop (opening v bytes) bytes) ≡ closing v ++ rest) part_kind h.ended) in
+    let short : length rest ≤ length left = same_lead y.part_kind y.text left rest k.within k.ended ended in
     let a : length bytes ≡ length x.text + length rest = ap length h.whole ∙ length-append x.text rest in
     let b : length bytes ≡ length y.text + length left = ap length e ∙ length-append y.text left in
     omega arith

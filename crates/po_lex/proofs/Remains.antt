@@ -3,16 +3,16 @@ use Rattle.std.proofs.Common.{◌≡◌, ℕ, ◌+◌, ◌-◌, List, ◌∷◌,
 use Rattle.std.proofs.lemmas.List.{drop-drop}
 use Rattle.po_base.specs.declared.token.Token.{Token}
 use Rattle.po_lex.specs.Keeping.{Keeps, more, advance, size, kept_of, at_start}
-use Rattle.po_lex.specs.declared.keeping.Mood.{Mood}
+use Rattle.po_lex.specs.declared.keeping.Context.{Context}
 
-pub keeps_on : (read done grown : List Token) (m now : Mood) (at n : ℕ) (t : Token) (us : List Token) → drop at read ≡ t ∷ us → n ≡ size m t us →
+pub keeps_on : (read done grown : List Token) (m now : Context) (at n : ℕ) (t : Token) (us : List Token) → drop at read ≡ t ∷ us → n ≡ size m t us →
     now ≡ advance m (take n (drop at read)) → grown ≡ done ++ kept_of n t us →
     ((kept : List Token) → Keeps m (drop at read) kept → Keeps at_start read (done ++ kept)) →
     (kept : List Token) → Keeps now (drop (at + n) read) kept → Keeps at_start read (grown ++ kept)
 keeps_on read done grown m now at n t us parts sized moved grew before kept k =
     let rest : drop (at + n) read ≡ drop n (t ∷ us) = sym (drop-drop n at read) ∙ ap (drop n) parts in
-    let mood : now ≡ advance m (take n (t ∷ us)) = moved ∙ ap (λ v. advance m (take n v)) parts in
-    let one : Keeps (advance m (take n (t ∷ us))) (drop n (t ∷ us)) kept = subst (λ v. Keeps v (drop n (t ∷ us)) kept) mood (subst (λ v. Keeps now v kept) rest k) in
+    let context : now ≡ advance m (take n (t ∷ us)) = moved ∙ ap (λ v. advance m (take n v)) parts in
+    let one : Keeps (advance m (take n (t ∷ us))) (drop n (t ∷ us)) kept = subst (λ v. Keeps v (drop n (t ∷ us)) kept) context (subst (λ v. Keeps now v kept) rest k) in
     let two : Keeps (advance m (take (size m t us) (t ∷ us))) (drop (size m t us) (t ∷ us)) kept =
     subst (λ v. Keeps (advance m (take v (t ∷ us))) (drop v (t ∷ us)) kept) sized one in
     let three : Keeps m (drop at read) (kept_of n t us ++ kept) =

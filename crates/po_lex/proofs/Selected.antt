@@ -4,10 +4,10 @@ use Rattle.std.specs.Prelude.{◌==◌, ◌&&◌, ◌||◌}
 use Rattle.std.specs.List.{All}
 use Rattle.std.proofs.lemmas.List.Elements.{All-cons, All-head, All-tail}
 use Rattle.po_base.specs.declared.token.Token.{Token}
-use Rattle.po_lex.specs.Keeping.{Keeps, nothing, more, kept_as, kept_of, size_as, size, renamed_as, renamed, tells, is_empty, extension_of, doubled, parens, AreSelected, none_left, left_out, taken, reread}
+use Rattle.po_lex.specs.Keeping.{Keeps, nothing, more, kept_as, kept_of, size_as, size, renamed_as, renamed, tells, is_empty, extension_of, double_parens, parens, AreSelected, none_left, left_out, taken, reread}
 use Rattle.po_lex.specs.declared.extension.Extension.{Extension}
 use Rattle.po_lex.specs.declared.extension.Extension.TheVariants as e
-use Rattle.po_lex.specs.declared.keeping.Mood.{Mood}
+use Rattle.po_lex.specs.declared.keeping.Context.{Context}
 
 skip_front : (n : ℕ) (ts kept : List Token) → AreSelected (drop n ts) kept → AreSelected ts kept
 skip_front zero ts kept h = h
@@ -19,16 +19,16 @@ whole_front zero ts kept h = h
 whole_front (suc n) [] kept h = h
 whole_front (suc n) (t ∷ ts) kept h = taken t ts (take n ts ++ kept) (whole_front n ts kept h)
 
-one_as : (x : Extension) (m : Mood) (t : Token) (us kept : List Token) → extension_of t ≡ x → AreSelected (drop (size_as x m us) (t ∷ us)) kept →
+one_as : (x : Extension) (m : Context) (t : Token) (us kept : List Token) → extension_of t ≡ x → AreSelected (drop (size_as x m us) (t ∷ us)) kept →
     AreSelected (t ∷ us) (kept_as x t (take (size_as x m us - 1) us) ++ kept)
 one_as e.Dropped m t us kept q h = skip_front 1 (t ∷ us) kept h
 one_as e.Attribute m t us kept q h =
-    let held : List Token = take (doubled us + 1 - 1) us in
-    let n : doubled us + 1 ≡ suc (doubled us + 1 - 1) = omega arith in
-    let rest : AreSelected (drop (doubled us + 1 - 1) us) kept = subst (λ k. AreSelected (drop k (t ∷ us)) kept) n h in
+    let held : List Token = take (double_parens us + 1 - 1) us in
+    let n : double_parens us + 1 ≡ suc (double_parens us + 1 - 1) = omega arith in
+    let rest : AreSelected (drop (double_parens us + 1 - 1) us) kept = subst (λ k. AreSelected (drop k (t ∷ us)) kept) n h in
     elim (is_empty held || tells held) as (λ b. AreSelected (t ∷ us) (cond b (t ∷ held) [] ++ kept)) [
-      | true ↦ taken t us (held ++ kept) (whole_front (doubled us + 1 - 1) us kept rest)
-      | false ↦ skip_front (doubled us + 1) (t ∷ us) kept h
+      | true ↦ taken t us (held ++ kept) (whole_front (double_parens us + 1 - 1) us kept rest)
+      | false ↦ skip_front (double_parens us + 1) (t ∷ us) kept h
     ]
 one_as e.Assembler m t us kept q h =
     elim (m.after && (m.depth == 0)) as (λ b. AreSelected (drop (cond b (parens us + 1) 1) (t ∷ us)) kept →
@@ -49,14 +49,14 @@ one_as e.Inline m t us kept q h = subst (λ x. AreSelected (t ∷ us) (renamed_a
 one_as e.Const m t us kept q h = subst (λ x. AreSelected (t ∷ us) (renamed_as x t ∷ kept)) q (reread t us kept h)
 one_as e.Other m t us kept q h = taken t us kept h
 
-one_group : (m : Mood) (t : Token) (us kept : List Token) → AreSelected (drop (size m t us) (t ∷ us)) kept → AreSelected (t ∷ us) (kept_of (size m t us) t us ++ kept)
+one_group : (m : Context) (t : Token) (us kept : List Token) → AreSelected (drop (size m t us) (t ∷ us)) kept → AreSelected (t ∷ us) (kept_of (size m t us) t us ++ kept)
 one_group m t us kept h = one_as (extension_of t) m t us kept refl h
 
-selected-along : {m : Mood} {ts kept : List Token} → Keeps m ts kept → AreSelected ts kept
+selected-along : {m : Context} {ts kept : List Token} → Keeps m ts kept → AreSelected ts kept
 selected-along (nothing m) = none_left
 selected-along (more m t us kept h) = one_group m t us kept (selected-along h)
 
-pub selected : (m : Mood) (ts kept : List Token) → Keeps m ts kept → AreSelected ts kept
+pub selected : (m : Context) (ts kept : List Token) → Keeps m ts kept → AreSelected ts kept
 selected m ts kept h = selected-along h
 
 fewer-along : {ts kept : List Token} → AreSelected ts kept → length kept ≤ length ts

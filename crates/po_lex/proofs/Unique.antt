@@ -5,24 +5,24 @@ use Rattle.std.proofs.lemmas.List.{length_push}
 use Rattle.po_base.specs.declared.token.Token.{Token}
 use Rattle.po_base.specs.declared.token.Tokens.{Tokens}
 use Rattle.po_base.specs.declared.token.TokenKind.{TokenKind}
-use Rattle.po_lex.specs.Leads.{opening, kind_of}
+use Rattle.po_lex.specs.PartKinds.{opening, token_kind_of}
 use Rattle.po_lex.specs.Division.{Part, Stands, NoneStands, Divides, AreTokens, Fails, HasTooMany, after, behind_all, start, as_token, tokens_of, names_of, is_directive}
 use Rattle.po_lex.specs.Keeping.{Keeps, nothing, more, kept_of, size}
 use Rattle.po_lex.specs.Pieces.{IsPiece, Divided}
 use Rattle.po_lex.specs.Laws.{StandInOrder, Cover}
-use Rattle.po_lex.specs.declared.place.Place.{Place}
-use Rattle.po_lex.specs.declared.keeping.Mood.{Mood}
+use Rattle.po_lex.specs.declared.position.Position.{Position}
+use Rattle.po_lex.specs.declared.keeping.Context.{Context}
 use Rattle.po_lex.specs.declared.shape.Piece.{Piece}
 use Rattle.po_lex.proofs.Parts.{one_part}
 
 nowhere : (fresh : Bool) (bytes : List ℕ) (x : Part) (rest : List ℕ) → bytes ≡ [] → Stands fresh bytes x rest → ⊥
 nowhere fresh bytes x rest e h =
-    let a : 0 < opening x.lead bytes = h.some in
-    let b : opening x.lead bytes ≤ length bytes = h.within in
+    let a : 0 < opening x.part_kind bytes = h.some in
+    let b : opening x.part_kind bytes ≤ length bytes = h.within in
     let n : length bytes ≡ 0 = ap length e in
     omega arith
 
-same_division : (p : Place) (bytes : List ℕ) (xs ys : List Part) → Divides p xs bytes [] → Divides p ys bytes [] → xs ≡ ys
+same_division : (p : Position) (bytes : List ℕ) (xs ys : List Part) → Divides p xs bytes [] → Divides p ys bytes [] → xs ≡ ys
 same_division p bytes [] [] h k = refl
 same_division p bytes [] (y ∷ ys) h k = absurd (nowhere p.fresh bytes y k.0 h k.1)
 same_division p bytes (x ∷ xs) [] h k = absurd (nowhere p.fresh bytes x h.0 k h.1)
@@ -46,7 +46,7 @@ one_list name bytes xs ys h k =
     ap (λ v. both v xs.names) list ∙ ap (λ v. both ys.list v) names
 
 -- a division goes past each place at which a part stands
-stuck_division : (p : Place) (bytes left : List ℕ) (xs ys : List Part) → Divides p xs bytes left → (left ≡ [] → ⊥) →
+stuck_division : (p : Position) (bytes left : List ℕ) (xs ys : List Part) → Divides p xs bytes left → (left ≡ [] → ⊥) →
     NoneStands (behind_all p xs).fresh left → Divides p ys bytes [] → ⊥
 stuck_division p bytes left [] [] h some none k = some (sym h ∙ k)
 stuck_division p bytes left [] (y ∷ ys) h some none k = none y k.0 (subst (λ v. Stands p.fresh v y k.0) h k.1)
@@ -59,7 +59,7 @@ stuck_division p bytes left (x ∷ xs) (y ∷ ys) h some none k =
 pub no_failure : (bytes : List ℕ) (line : ℕ) (directive : Bool) (ys : List Part) → Divides start ys bytes [] → Fails bytes line directive → ⊥
 no_failure bytes line directive ys k f = stuck_division start bytes f.left f.front ys f.divides f.some f.none k
 
-same_failure : (p : Place) (bytes left last : List ℕ) (xs ys : List Part) → Divides p xs bytes left → Divides p ys bytes last →
+same_failure : (p : Position) (bytes left last : List ℕ) (xs ys : List Part) → Divides p xs bytes left → Divides p ys bytes last →
     NoneStands (behind_all p xs).fresh left → NoneStands (behind_all p ys).fresh last → (behind_all p xs ≡ behind_all p ys) × (left ≡ last)
 same_failure p bytes left last [] [] h k none other = (refl, sym h ∙ k)
 same_failure p bytes left last [] (y ∷ ys) h k none other = absurd (none y k.0 (subst (λ v. Stands p.fresh v y k.0) h k.1))
@@ -92,23 +92,23 @@ in_order_after [] gap rest h = tt
 in_order_after (x ∷ xs) gap rest h =
     (gap ++ h.0, h.1, ap (λ v. gap ++ v) h.2 ∙ sym (append_assoc gap h.0 (x ++ h.1)), h.3)
 
-texts_of : (kind : Option TokenKind) (p : Place) (text rest bytes : List ℕ) (others : List Token) → bytes ≡ text ++ rest →
+texts_of : (kind : Option TokenKind) (p : Position) (text rest bytes : List ℕ) (others : List Token) → bytes ≡ text ++ rest →
     StandInOrder (map (λ t. t.text) others) rest → StandInOrder (map (λ t. t.text) (as_token kind p text ++ others)) bytes
 texts_of None p text rest bytes others q h = subst (StandInOrder (map (λ t. t.text) others)) (sym q) (in_order_after (map (λ t. t.text) others) text rest h)
 texts_of (Some kind) p text rest bytes others q h = ([], rest, q, h)
 
-pub in_order : (p : Place) (xs : List Part) (bytes : List ℕ) → Divides p xs bytes [] → StandInOrder (map (λ t. t.text) (tokens_of p xs)) bytes
+pub in_order : (p : Position) (xs : List Part) (bytes : List ℕ) → Divides p xs bytes [] → StandInOrder (map (λ t. t.text) (tokens_of p xs)) bytes
 in_order p [] bytes h = tt
-in_order p (x ∷ xs) bytes h = texts_of (kind_of x.lead) p x.text h.0 bytes (tokens_of (after p x) xs) h.1.whole (in_order (after p x) xs h.0 h.2)
+in_order p (x ∷ xs) bytes h = texts_of (token_kind_of x.part_kind) p x.text h.0 bytes (tokens_of (after p x) xs) h.1.whole (in_order (after p x) xs h.0 h.2)
 
 pub texts_in_order : (name bytes : List ℕ) (tokens : Tokens) → AreTokens name bytes tokens → StandInOrder (map (λ t. t.text) tokens.list) bytes
 texts_in_order name bytes tokens h = subst (λ v. StandInOrder (map (λ t. t.text) v) bytes) (sym h.list) (in_order start h.parts bytes h.divides)
 
-same_kept : {m : Mood} {tokens xs ys : List Token} → Keeps m tokens xs → Keeps m tokens ys → xs ≡ ys
+same_kept : {m : Context} {tokens xs ys : List Token} → Keeps m tokens xs → Keeps m tokens ys → xs ≡ ys
 same_kept (nothing m) (nothing _) = refl
 same_kept (more m t us kept h) (more _ _ _ other k) = ap (λ v. kept_of (size m t us) t us ++ v) (same_kept h k)
 
-pub one_kept : (m : Mood) (tokens xs ys : List Token) → Keeps m tokens xs → Keeps m tokens ys → xs ≡ ys
+pub one_kept : (m : Context) (tokens xs ys : List Token) → Keeps m tokens xs → Keeps m tokens ys → xs ≡ ys
 one_kept m tokens xs ys h k = same_kept h k
 
 some_tokens : (tokens : List Token) (body : Bool) → IsPiece tokens body → 0 < length tokens

@@ -6,13 +6,13 @@ use Rattle.std.proofs.lemmas.Bool.Decides.{eqb_tells}
 use Rattle.std.proofs.lemmas.List.{drop_more, drop-set, length-drop, take_all}
 use Rattle.po_base.specs.declared.token.Token.{Token}
 use Rattle.po_lex.specs.Brackets.{State, outset, step, behind_mark, mark, closer, is_closer, pop}
-use Rattle.po_lex.specs.Keeping.{group, is_closed, parens, doubled, size_as, size, extension_of, begins_paren}
+use Rattle.po_lex.specs.Keeping.{group, is_closed, parens, double_parens, size_as, size, extension_of, begins_paren}
 use Rattle.po_lex.specs.declared.extension.Extension.{Extension}
 use Rattle.po_lex.specs.declared.extension.Extension.TheVariants as e
 use Rattle.po_lex.specs.Closings.{parens_from_each, opened, met, closings, width}
-use Rattle.po_lex.specs.declared.walk.Open.{Open}
+use Rattle.po_lex.specs.declared.nesting.Open.{Open}
 use Rattle.po_lex.specs.declared.closing.Closing.{Closing}
-use Rattle.po_lex.specs.declared.keeping.Mood.{Mood}
+use Rattle.po_lex.specs.declared.keeping.Context.{Context}
 
 -- how many tokens stand behind the bracket that closes the outermost of these open ones
 abbrev meets : List Open → List Closing → Option ℕ
@@ -22,9 +22,9 @@ meets (x ∷ []) (c ∷ cs) = cond (x.close == c.byte) (Some c.behind) None
 meets (x ∷ y ∷ ys) (c ∷ cs) = cond (x.close == c.byte) (meets (y ∷ ys) cs) None
 
 -- a group of n tokens ends before so many of them all; None where there is no group
-abbrev Ends : ℕ → ℕ → Option ℕ → Type 0
-Ends n all None = n ≡ 0
-Ends n all (Some left) = n + left ≡ all
+abbrev GroupEnds : ℕ → ℕ → Option ℕ → Type 0
+GroupEnds n all None = n ≡ 0
+GroupEnds n all (Some left) = n + left ≡ all
 
 abbrev at : List Open → Bool → Option State
 at stack begins = Some (record { stack = stack; begins = begins })
@@ -39,24 +39,24 @@ group-none n (t ∷ ts) = refl
 
 -- what is known of the tokens behind
 abbrev Known : List Token → Type 0
-Known ts = (n : ℕ) (begins : Bool) (x : Open) (xs : List Open) → Ends (group n (at (x ∷ xs) begins) ts) (n + length ts) (meets (x ∷ xs) (closings ts))
+Known ts = (n : ℕ) (begins : Bool) (x : Open) (xs : List Open) → GroupEnds (group n (at (x ∷ xs) begins) ts) (n + length ts) (meets (x ∷ xs) (closings ts))
 
 known_on : (ts : List Token) → Known ts → (t : Token) (n : ℕ) (begins : Bool) (x : Open) (xs : List Open) →
-    Ends (on n (at (x ∷ xs) begins) ts) (n + length (t ∷ ts)) (meets (x ∷ xs) (closings ts))
+    GroupEnds (on n (at (x ∷ xs) begins) ts) (n + length (t ∷ ts)) (meets (x ∷ xs) (closings ts))
 known_on ts h t n begins x xs =
     let e : (n + 1) + length ts ≡ n + length (t ∷ ts) = omega arith in
-    subst (λ v. Ends (group (n + 1) (at (x ∷ xs) begins) ts) v (meets (x ∷ xs) (closings ts))) e (h (n + 1) begins x xs)
+    subst (λ v. GroupEnds (group (n + 1) (at (x ∷ xs) begins) ts) v (meets (x ∷ xs) (closings ts))) e (h (n + 1) begins x xs)
 
 -- behind a closing bracket
 closes : (ts : List Token) → Known ts → (t : Token) (n c : ℕ) (x : Open) (xs : List Open) →
-    Ends (on n (behind_mark c (pop c (x ∷ xs))) ts) (n + length (t ∷ ts)) (meets (x ∷ xs) (record { byte = c; behind = length ts } ∷ closings ts))
+    GroupEnds (on n (behind_mark c (pop c (x ∷ xs))) ts) (n + length (t ∷ ts)) (meets (x ∷ xs) (record { byte = c; behind = length ts } ∷ closings ts))
 closes ts h t n c x [] =
-    elim (x.close == c) as (λ b. Ends (on n (behind_mark c (cond b (Some []) None)) ts) (n + length (t ∷ ts)) (cond b (Some (length ts)) None)) [
+    elim (x.close == c) as (λ b. GroupEnds (on n (behind_mark c (cond b (Some []) None)) ts) (n + length (t ∷ ts)) (cond b (Some (length ts)) None)) [
       | true ↦ omega arith
       | false ↦ group-none (n + 1) ts
     ]
 closes ts h t n c x (y ∷ ys) =
-    elim (x.close == c) as (λ b. Ends (on n (behind_mark c (cond b (Some (y ∷ ys)) None)) ts) (n + length (t ∷ ts)) (cond b (meets (y ∷ ys) (closings ts)) None)) [
+    elim (x.close == c) as (λ b. GroupEnds (on n (behind_mark c (cond b (Some (y ∷ ys)) None)) ts) (n + length (t ∷ ts)) (cond b (meets (y ∷ ys) (closings ts)) None)) [
       | true ↦ known_on ts h t n (c == 41) y ys
       | false ↦ group-none (n + 1) ts
     ]
@@ -68,9 +68,9 @@ meets_opened o x xs (c ∷ cs) =
 
 -- behind an opening bracket
 opens : (ts : List Token) → Known ts → (t : Token) (n : ℕ) (begins : Bool) (o x : Open) (xs : List Open) →
-    Ends (on n (at (o ∷ x ∷ xs) begins) ts) (n + length (t ∷ ts)) (meets (x ∷ xs) (opened o.close (closings ts)))
+    GroupEnds (on n (at (o ∷ x ∷ xs) begins) ts) (n + length (t ∷ ts)) (meets (x ∷ xs) (opened o.close (closings ts)))
 opens ts h t n begins o x xs =
-    subst (λ v. Ends (on n (at (o ∷ x ∷ xs) begins) ts) (n + length (t ∷ ts)) v) (meets_opened o x xs (closings ts)) (known_on ts h t n begins o (x ∷ xs))
+    subst (λ v. GroupEnds (on n (at (o ∷ x ∷ xs) begins) ts) (n + length (t ∷ ts)) v) (meets_opened o x xs (closings ts)) (known_on ts h t n begins o (x ∷ xs))
 
 abbrev bracket : Token → Bool → Open
 bracket t begins = record { close = closer (mark t); line = t.own_line; body = (mark t == 123) && begins }
@@ -80,10 +80,10 @@ group_ends [] = λ n begins x xs. refl
 group_ends (t ∷ ts) = λ n begins x xs.
     let h : Known ts = group_ends ts in
     let c : ℕ = mark t in
-    elim (is_closer c) as (λ b. Ends (on n (behind_mark c (cond b (pop c (x ∷ xs)) (cond (closer c == 0) (Some (x ∷ xs)) (Some (bracket t begins ∷ x ∷ xs))))) ts)
+    elim (is_closer c) as (λ b. GroupEnds (on n (behind_mark c (cond b (pop c (x ∷ xs)) (cond (closer c == 0) (Some (x ∷ xs)) (Some (bracket t begins ∷ x ∷ xs))))) ts)
     (n + length (t ∷ ts)) (meets (x ∷ xs) (cond b (record { byte = c; behind = length ts } ∷ closings ts) (cond (closer c == 0) (closings ts) (opened (closer c) (closings ts)))))) [
       | true ↦ closes ts h t n c x xs
-      | false ↦ elim (closer c == 0) as (λ b. Ends (on n (behind_mark c (cond b (Some (x ∷ xs)) (Some (bracket t begins ∷ x ∷ xs)))) ts)
+      | false ↦ elim (closer c == 0) as (λ b. GroupEnds (on n (behind_mark c (cond b (Some (x ∷ xs)) (Some (bracket t begins ∷ x ∷ xs)))) ts)
           (n + length (t ∷ ts)) (meets (x ∷ xs) (cond b (closings ts) (opened (closer c) (closings ts))))) [
             | true ↦ known_on ts h t n (c == 41) x xs
             | false ↦ opens ts h t n (c == 41) (bracket t begins) x xs
@@ -98,10 +98,10 @@ either_way a b = elim (eqb_tells a b) [
 
 -- the parentheses that a `(` opens
 from_paren : (n begun : ℕ) (line : ℕ) (body : Bool) (cs : List Closing) →
-    Ends n (1 + begun) (meets (record { close = 41; line = line; body = body } ∷ []) cs) → n ≡ width 40 begun cs
+    GroupEnds n (1 + begun) (meets (record { close = 41; line = line; body = body } ∷ []) cs) → n ≡ width 40 begun cs
 from_paren n begun line body [] h = h
 from_paren n begun line body (c ∷ cs) h =
-    rw (either_way c.byte 41) (elim (41 == c.byte) as (λ b. Ends n (1 + begun) (cond b (Some c.behind) None) → n ≡ cond b (begun + 1 - c.behind) 0) [
+    rw (either_way c.byte 41) (elim (41 == c.byte) as (λ b. GroupEnds n (1 + begun) (cond b (Some c.behind) None) → n ≡ cond b (begun + 1 - c.behind) 0) [
       | true ↦ (λ q. omega (arith, q))
       | false ↦ (λ q. q)
     ] h)
@@ -187,16 +187,16 @@ parens_within ts =
     let h : group 0 (Some outset) ts ≤ 0 + length ts = group_within 0 (Some outset) ts in
     elim (begins_paren ts) as (λ b. cond b (group 0 (Some outset) ts) 0 ≤ length ts) [ true ↦ omega (arith, h) | false ↦ omega arith ]
 
-doubled_within : (ts : List Token) → doubled ts ≤ length ts
-doubled_within ts =
+double_parens_within : (ts : List Token) → double_parens ts ≤ length ts
+double_parens_within ts =
     elim (not (parens (drop 1 ts) == 0) && (parens (drop 1 ts) + 2 == parens ts)) as (λ b. cond b (parens ts) 0 ≤ length ts) [
       | true ↦ parens_within ts
       | false ↦ omega arith
     ]
 
-size_as_within : (x : Extension) (m : Mood) (ts : List Token) → size_as x m ts ≤ length ts + 1
+size_as_within : (x : Extension) (m : Context) (ts : List Token) → size_as x m ts ≤ length ts + 1
 size_as_within e.Attribute m ts =
-    let a = doubled_within ts in omega (arith, a)
+    let a = double_parens_within ts in omega (arith, a)
 size_as_within e.Assembler m ts =
     let b = parens_within ts in elim (m.after && (m.depth == 0)) as (λ v. cond v (parens ts + 1) 1 ≤ length ts + 1) [ true ↦ omega (arith, b) | false ↦ omega arith ]
 size_as_within e.Other m ts = omega arith
@@ -205,7 +205,7 @@ size_as_within e.Inline m ts = omega arith
 size_as_within e.Const m ts = omega arith
 
 -- what is judged at once is there
-pub size_within : (m : Mood) (t : Token) (ts : List Token) → size m t ts ≤ length ts + 1
+pub size_within : (m : Context) (t : Token) (ts : List Token) → size m t ts ≤ length ts + 1
 size_within m t ts = size_as_within (extension_of t) m ts
 
 pub as_many : (ts : List Token) → length (parens_from_each ts) ≡ length ts
@@ -219,7 +219,7 @@ widths_behind read widths k q =
     take_all (length widths - k) (drop k widths) (omega arith) ∙ ap (drop k) q ∙ widths_from k read
 
 -- what is judged at once from a place on is there
-pub judged_within : (read : List Token) (widths : List ℕ) (at n : ℕ) (m : Mood) (x : Extension) (t : Token) → at < length read → widths ≡ parens_from_each read →
+pub judged_within : (read : List Token) (widths : List ℕ) (at n : ℕ) (m : Context) (x : Extension) (t : Token) → at < length read → widths ≡ parens_from_each read →
     x ≡ extension_of t →
     ((others : List Token) → take (length widths - (at + 1)) (drop (at + 1) widths) ≡ parens_from_each others → n ≡ size_as x m others) →
     (n ≡ size m t (drop (at + 1) read)) × (at + n ≤ length read)

@@ -3,8 +3,8 @@ use Rattle.std.specs.Prelude.{ℕ, Bool, true, false, cond, ◌==◌, ◌&&◌, 
 use Rattle.po_base.specs.declared.token.TokenKind.{TokenKind}
 use Rattle.po_base.specs.declared.token.TokenKind.TheVariants as k
 use Rattle.po_base.specs.declared.token.Token.{Token}
-use Rattle.po_lex.specs.declared.walk.Open.{Open}
-use Rattle.po_lex.specs.declared.walk.Walk.{Walk}
+use Rattle.po_lex.specs.declared.nesting.Open.{Open}
+use Rattle.po_lex.specs.declared.nesting.Nesting.{Nesting}
 
 abbrev pub is_punct : TokenKind → Bool
 is_punct k.Punct = true
@@ -71,5 +71,5 @@ abbrev pub ends : State → Token → Bool
 ends s t = ends_in s.stack (mark t)
 
 -- what a walk over tokens has come to
-abbrev pub state_of : Walk → State
+abbrev pub state_of : Nesting → State
 state_of w = record { stack = reverse w.open; begins = w.begins }

@@ -76,8 +76,8 @@ abbrev pub next : List ℕ → List ℕ
 next xs = solid (skip r.Word 0 xs)
 
 -- what a line says from its first byte that is no blank on; None where no such line is allowed
-abbrev pub told : List ℕ → Option Effect
-told xs =
+abbrev pub directive_effect_at : List ℕ → Option Effect
+directive_effect_at xs =
     cond (is_end xs) (Some e.Silent)
     (cond (begins_digit xs) (marker xs)
     (cond (is_word (codes "line") xs) (numbered (next xs))
@@ -85,8 +85,8 @@ told xs =
     (cond (is_word (codes "pragma") xs && not (is_word (codes "pack") (next xs))) (Some e.Silent) None))))
 
 -- what a line says, from behind its `#`
-abbrev pub says : List ℕ → Option Effect
-says line = told (solid line)
+abbrev pub directive_effect : List ℕ → Option Effect
+directive_effect line = directive_effect_at (solid line)
 
 -- bytes of a name: UTF-8 without bytes below 32
 abbrev pub is_name : List ℕ → Bool

@@ -6,35 +6,35 @@ use Rattle.po_base.specs.declared.token.Token.{Token}
 use Rattle.po_base.specs.declared.token.Tokens.{Tokens}
 use Rattle.po_lex.specs.Bytes.{newlines, is_gap}
 use Rattle.po_lex.specs.Rows.{skip}
-use Rattle.po_lex.specs.Leads.{lead_of, opening, row_of, closing, kind_of}
-use Rattle.po_lex.specs.Directives.{says, is_proper}
-use Rattle.po_lex.specs.declared.lead.Lead.{Lead}
-use Rattle.po_lex.specs.declared.lead.Lead.TheVariants as l
+use Rattle.po_lex.specs.PartKinds.{part_kind_of, opening, row_of, closing, token_kind_of}
+use Rattle.po_lex.specs.Directives.{directive_effect, is_proper}
+use Rattle.po_lex.specs.declared.part_kind.PartKind.{PartKind}
+use Rattle.po_lex.specs.declared.part_kind.PartKind.TheVariants as l
 use Rattle.po_lex.specs.declared.effect.Effect.{Effect}
 use Rattle.po_lex.specs.declared.effect.Effect.TheVariants as e
-use Rattle.po_lex.specs.declared.place.Place.{Place}
+use Rattle.po_lex.specs.declared.position.Position.{Position}
 
 -- a blank, a comment, a directive or a token: what it is, its bytes, and what it says of the lines after it
 pub record Part : Type 0 where
-  pub lead : Lead
+  pub part_kind : PartKind
   pub text : List ℕ
   pub effect : Effect
 
 -- Only a directive says something. Before its `#` nothing but spaces and tabs stand on its line, and it is one of those
 -- that are allowed.
-abbrev pub IsSaid : Lead → Bool → List ℕ → Effect → Type 0
-IsSaid l.Directive fresh text effect = (fresh ≡ true) × (says (drop 1 text) ≡ Some effect) × (is_proper effect ≡ true)
-IsSaid _ fresh text effect = effect ≡ e.Silent
+abbrev pub HasEffect : PartKind → Bool → List ℕ → Effect → Type 0
+HasEffect l.Directive fresh text effect = (fresh ≡ true) × (directive_effect (drop 1 text) ≡ Some effect) × (is_proper effect ≡ true)
+HasEffect _ fresh text effect = effect ≡ e.Silent
 
 -- The part stands at the front of the bytes, and `rest` comes after it: its opening bytes, its row as far as it goes on,
 -- and its closing bytes. `fresh` says that only spaces and tabs stand before the bytes on their line.
 pub record Stands (fresh : Bool) (bytes : List ℕ) (part : Part) (rest : List ℕ) : Type 0 where
   pub whole : bytes ≡ part.text ++ rest
-  pub begun : part.lead ≡ lead_of bytes
-  pub some : 0 < opening part.lead bytes
-  pub within : opening part.lead bytes ≤ length bytes
-  pub ended : skip (row_of part.lead) 0 (drop (opening part.lead bytes) bytes) ≡ closing part.lead ++ rest
-  pub said : IsSaid part.lead fresh part.text part.effect
+  pub begun : part.part_kind ≡ part_kind_of bytes
+  pub some : 0 < opening part.part_kind bytes
+  pub within : opening part.part_kind bytes ≤ length bytes
+  pub ended : skip (row_of part.part_kind) 0 (drop (opening part.part_kind bytes) bytes) ≡ closing part.part_kind ++ rest
+  pub part_effect : HasEffect part.part_kind fresh part.text part.effect
 
 -- whether only spaces and tabs stand on the line up to the end of these bytes
 abbrev pub freshly : Bool → List ℕ → Bool
@@ -53,7 +53,7 @@ named_by (e.Named n name) = name ∷ []
 named_by _ = []
 
 -- the place behind a part with these bytes, which says this
-abbrev pub moved : Place → List ℕ → Effect → Place
+abbrev pub moved : Position → List ℕ → Effect → Position
 moved p text effect = record {
   fresh = freshly p.fresh text;
   next = next_line effect p.next + newlines text;
@@ -61,32 +61,32 @@ moved p text effect = record {
   named = p.named + length (named_by effect);
 }
 
-abbrev pub after : Place → Part → Place
+abbrev pub after : Position → Part → Position
 after p x = moved p x.text x.effect
 
 -- The place at which a file begins: on its line 1, so that its next line is 2.
-abbrev pub start : Place
+abbrev pub start : Position
 start = record { fresh = true; next = 2; own = 1; named = 0 }
 
 -- the place behind these parts
-abbrev pub behind_all : Place → List Part → Place
+abbrev pub behind_all : Position → List Part → Position
 behind_all p [] = p
 behind_all p (x ∷ xs) = behind_all (after p x) xs
 
 -- The parts are those of the bytes from this place on, one after the other, and `left` comes after them.
-abbrev pub Divides : Place → List Part → List ℕ → List ℕ → Type 0
+abbrev pub Divides : Position → List Part → List ℕ → List ℕ → Type 0
 Divides p [] bytes left = bytes ≡ left
 Divides p (x ∷ xs) bytes left = (rest : List ℕ) × Stands p.fresh bytes x rest × Divides (after p x) xs rest left
 
 -- the token of a part, where it is one
-abbrev pub as_token : Option TokenKind → Place → List ℕ → List Token
+abbrev pub as_token : Option TokenKind → Position → List ℕ → List Token
 as_token None p text = []
 as_token (Some kind) p text = record { kind = kind; text = text; file = p.named; line = p.next - 1; own_line = p.own } ∷ []
 
 -- the tokens of the parts from this place on
-abbrev pub tokens_of : Place → List Part → List Token
+abbrev pub tokens_of : Position → List Part → List Token
 tokens_of p [] = []
-tokens_of p (x ∷ xs) = as_token (kind_of x.lead) p x.text ++ tokens_of (after p x) xs
+tokens_of p (x ∷ xs) = as_token (token_kind_of x.part_kind) p x.text ++ tokens_of (after p x) xs
 
 -- the names that the parts give to the file
 abbrev pub names_of : List Part → List (List ℕ)

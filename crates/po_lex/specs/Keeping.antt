@@ -4,8 +4,8 @@ use Rattle.std.specs.List.{list_any}
 use Rattle.std.specs.Str.{bytes_eq}
 use Rattle.po_base.specs.declared.token.Token.{Token}
 use Rattle.po_lex.specs.Brackets.{State, outset, step, mark, is_word, closer, is_closer}
-use Rattle.po_lex.specs.declared.keeping.Mood.{Mood}
-use Rattle.po_lex.specs.declared.keeping.Standard.{Standard}
+use Rattle.po_lex.specs.declared.keeping.Context.{Context}
+use Rattle.po_lex.specs.declared.keeping.Replacements.{Replacements}
 use Rattle.po_lex.specs.declared.extension.Extension.{Extension}
 use Rattle.po_lex.specs.declared.extension.Extension.TheVariants as e
 
@@ -77,8 +77,8 @@ abbrev pub parens : List Token → ℕ
 parens ts = cond (begins_paren ts) (group 0 (Some outset) ts) 0
 
 -- the same of double parentheses, of which the inner ones close directly before the outer
-abbrev pub doubled : List Token → ℕ
-doubled ts = cond (not (parens (drop 1 ts) == 0) && (parens (drop 1 ts) + 2 == parens ts)) (parens ts) 0
+abbrev pub double_parens : List Token → ℕ
+double_parens ts = cond (not (parens (drop 1 ts) == 0) && (parens (drop 1 ts) + 2 == parens ts)) (parens ts) 0
 
 -- how many brackets are open behind a token, where d were before it
 abbrev pub deeper : ℕ → Token → ℕ
@@ -89,26 +89,26 @@ abbrev pub may_end : Token → Bool
 may_end t = is_word t.kind || (mark t == 41) || (mark t == 93)
 
 -- The start of a file: no bracket is open, and nothing stands before.
-abbrev pub at_start : Mood
+abbrev pub at_start : Context
 at_start = record { depth = 0; after = false }
 
 -- what holds behind these tokens
-abbrev pub advance : Mood → List Token → Mood
+abbrev pub advance : Context → List Token → Context
 advance m [] = m
 advance m (t ∷ ts) = advance (record { depth = deeper m.depth t; after = may_end t }) ts
 
 -- How many tokens from t on are judged at once: an attribute with its double parentheses, outside brackets an `__asm__` with
 -- its parentheses behind what a declarator may end with, and else one token.
-abbrev pub size_as : Extension → Mood → List Token → ℕ
-size_as e.Attribute m us = doubled us + 1
+abbrev pub size_as : Extension → Context → List Token → ℕ
+size_as e.Attribute m us = double_parens us + 1
 size_as e.Assembler m us = cond (m.after && (m.depth == 0)) (parens us + 1) 1
 size_as _ m us = 1
 
-abbrev pub size : Mood → Token → List Token → ℕ
+abbrev pub size : Context → Token → List Token → ℕ
 size m t us = size_as (extension_of t) m us
 
 -- the words as which others are read
-pub record AreStandard (words : Standard) : Type 0 where
+pub record AreReplacements (words : Replacements) : Type 0 where
   pub inline_of : words.inline ≡ codes "inline"
   pub constant_of : words.constant ≡ codes "const"
 
@@ -136,9 +136,9 @@ abbrev pub kept_of : ℕ → Token → List Token → List Token
 kept_of n t us = kept_as (extension_of t) t (take (n - 1) us)
 
 -- The tokens `kept` are those that are kept of the tokens, before which this holds.
-pub data Keeps : Mood → List Token → List Token → Type 0 where
-  nothing : (m : Mood) → Keeps m [] []
-  more : (m : Mood) (t : Token) (us kept : List Token) →
+pub data Keeps : Context → List Token → List Token → Type 0 where
+  nothing : (m : Context) → Keeps m [] []
+  more : (m : Context) (t : Token) (us kept : List Token) →
       Keeps (advance m (take (size m t us) (t ∷ us))) (drop (size m t us) (t ∷ us)) kept →
       Keeps m (t ∷ us) (kept_of (size m t us) t us ++ kept)
 

@@ -25,6 +25,6 @@ IsKept true list tokens = 2 ^ 22 < length tokens
 
 -- the reader has read these parts of a file of this name
 pub record IsRead (name : List ℕ) (front : List Part) (lexer : Lexer) : Type 0 where
-  pub place : lexer.place ≡ behind_all start front
+  pub position : lexer.position ≡ behind_all start front
   pub list : IsKept lexer.excess lexer.list (tokens_of start front)
   pub names : lexer.names ≡ name ∷ names_of front

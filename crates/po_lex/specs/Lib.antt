@@ -1,6 +1,6 @@
 pub mod Bytes
 pub mod Rows
-pub mod Leads
+pub mod PartKinds
 pub mod Directives
 pub mod Division
 pub mod Lexing
@@ -11,4 +11,5 @@ pub mod Keeping
 pub mod Closings
 pub mod Laws
 pub mod Texts
+pub mod Markers
 pub mod Balance

@@ -2,7 +2,7 @@
 use Rattle.std.specs.Prelude.{ℕ, ◌≡◌, ◌+◌, ◌⊎◌, Bool, true, cond, ◌==◌, List, [], ◌∷◌, ◌++◌, length, Option, Some, None}
 use Rattle.po_base.specs.declared.token.Token.{Token}
 use Rattle.po_lex.specs.Brackets.{State, outset, step, ends, mark}
-use Rattle.po_lex.specs.declared.walk.Open.{Open}
+use Rattle.po_lex.specs.declared.nesting.Open.{Open}
 use Rattle.po_lex.specs.declared.shape.Piece.{Piece}
 
 -- The place behind these tokens; None where a closing bracket among them doesn't match, or where one of them ends a piece.

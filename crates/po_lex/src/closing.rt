@@ -1,7 +1,7 @@
 ghost use Rattle.std.specs.Prelude.{◌≡◌, ◌<◌, ◌^◌, ◌+◌, ◌∷◌, [], length, reverse, IfOk, OnOk};
 ghost use Rattle.po_lex.specs.Closings.{closings, met, opened, parens_from_each, width};
 
-use crate::walk::{closer, is_closer, mark};
+use crate::nesting::{closer, is_closer, mark};
 use po_base::{List, Memory, Token};
 use std::alloc::Global;
 
@@ -61,7 +61,7 @@ fn width(closings: &List<Closing>, byte: u8, behind: u32) -> u32
 /// the last token back to the first, once: time and memory are linear in the tokens, whatever they are.
 pub(crate) fn parens_from_each(alloc: Global, tokens: &[Token]) -> Result<List<u32>, Memory>
     requires { length tokens.now < 2 ^ 31 }
-    ensures told { IfOk result (λ widths. widths ≡ parens_from_each tokens.now) }
+    ensures directive_effect_at { IfOk result (λ widths. widths ≡ parens_from_each tokens.now) }
     ensures many { IfOk result (λ widths. length widths ≡ length tokens.now) }
 {
     let mut widths = List::from_vec(vec![in alloc; 0; tokens.len()]?);

@@ -2,7 +2,7 @@ ghost use Rattle.std.specs.Prelude.{◌≡◌, ◌≤◌, ◌<◌, ◌+◌, ◌*
 ghost use Rattle.std.specs.List.{list_any};
 ghost use Rattle.po_lex.specs.Bytes.{is_digit};
 ghost use Rattle.po_lex.specs.Rows.{skip};
-ghost use Rattle.po_lex.specs.Directives.{begins_digit, begins_quote, is_end, is_word, named, number, numbered, next, plain, says, marker, solid, told};
+ghost use Rattle.po_lex.specs.Directives.{begins_digit, begins_quote, is_end, is_word, named, number, numbered, next, plain, directive_effect, marker, solid, directive_effect_at};
 
 use crate::bytes::is_digit;
 use crate::effect::Effect;
@@ -235,9 +235,9 @@ fn is_skipped_pragma(line: &[u8], at: usize) -> bool
 }
 
 /// What a line of the preprocessor says, from a place at which no blank stands.
-fn told(alloc: Global, line: &Text, at: usize) -> Result<Option<Effect>, Memory>
+fn directive_effect_at(alloc: Global, line: &Text, at: usize) -> Result<Option<Effect>, Memory>
     requires { at ≤ length line.now }
-    ensures { IfOk result (λ found. found ≡ told (drop at line.now)) }
+    ensures { IfOk result (λ found. found ≡ directive_effect_at (drop at line.now)) }
 {
     let bytes = line.bytes();
     if is_end(bytes, at) {
@@ -260,8 +260,8 @@ fn told(alloc: Global, line: &Text, at: usize) -> Result<Option<Effect>, Memory>
 
 /// What a line of the preprocessor says, from behind its `#`; None where no such line is allowed. Time linear in the
 /// line; no memory but for a name with escapes.
-pub(crate) fn says(alloc: Global, line: &Text) -> Result<Option<Effect>, Memory>
-    ensures { IfOk result (λ found. found ≡ says line.now) }
+pub(crate) fn directive_effect(alloc: Global, line: &Text) -> Result<Option<Effect>, Memory>
+    ensures { IfOk result (λ found. found ≡ directive_effect line.now) }
 {
-    told(alloc, line, row_end(line.bytes(), 0, Row::Spaces))
+    directive_effect_at(alloc, line, row_end(line.bytes(), 0, Row::Spaces))
 }

@@ -1,7 +1,7 @@
 ghost use Rattle.std.specs.Prelude.{◌≡◌, ◌∷◌, [], cond, map};
 ghost use Rattle.po_lex.specs.Keeping.{extension_of, extension_word, is_among, is_one_of, telling, tells};
 
-use crate::walk::is_word;
+use crate::nesting::is_word;
 use po_base::Token;
 
 /// What a word of the compiler's own asks for.

@@ -2,18 +2,18 @@ ghost use Rattle.std.specs.Prelude.{ℕ, ◌≡◌, ◌≤◌, ◌<◌, ◌+◌,
 ghost use Rattle.po_base.specs.declared.token.Token.{Token as Placed};
 ghost use Rattle.po_lex.specs.Brackets.{closer, is_closer, mark};
 ghost use Rattle.po_lex.specs.Closings.{parens_from_each};
-ghost use Rattle.po_lex.specs.Keeping.{advance, at_start, deeper, doubled, kept_as, may_end, renamed_as, size_as, AreSelected, AreStandard, Keeps};
+ghost use Rattle.po_lex.specs.Keeping.{advance, at_start, deeper, double_parens, kept_as, may_end, renamed_as, size_as, AreSelected, AreReplacements, Keeps};
 ghost use Rattle.po_lex.specs.Division.{ArePlaced};
 
 use crate::closing::parens_from_each;
 use crate::extension::{Extension, extension_of, tells};
-use crate::walk::{closer, is_closer, is_word, mark};
+use crate::nesting::{closer, is_closer, is_word, mark};
 use po_base::{List, Memory, Text, Token, Tokens};
 use std::alloc::Global;
 
 /// What stands before a place among the tokens of a file as they were read.
 #[derive(Clone, Copy, Debug)]
-pub struct Mood {
+pub struct Context {
     /// How many brackets are open.
     pub depth: u32,
     /// Whether a word, a `)` or a `]` stands directly before.
@@ -34,8 +34,8 @@ fn width_at(widths: &[u32], at: usize) -> usize
 
 /// How many tokens the double parentheses have that stand first; 0 where none stand there. `widths` tells how many the
 /// parentheses have from each token on. Constant time.
-fn doubled(widths: &[u32]) -> usize
-    ensures value { (tokens : Items Placed) → widths.now ≡ parens_from_each tokens → result ≡ doubled tokens }
+fn double_parens(widths: &[u32]) -> usize
+    ensures value { (tokens : Items Placed) → widths.now ≡ parens_from_each tokens → result ≡ double_parens tokens }
     ensures few { result < 2 ^ 32 }
 {
     let outer = width_at(widths, 0);
@@ -70,21 +70,21 @@ fn may_end(token: &Token) -> bool
     is_word(token.kind) || mark(token) == b')' || mark(token) == b']'
 }
 
-impl Mood {
+impl Context {
     /// What stands before the place behind these tokens. Time linear in their number.
-    fn advance(self, tokens: &[Token]) -> Mood
+    fn advance(self, tokens: &[Token]) -> Context
         requires { self.depth + length tokens.now < 2 ^ 31 }
         ensures value { result ≡ advance self tokens.now }
         ensures few { result.depth ≤ self.depth + length tokens.now }
     {
-        let mut mood = self;
+        let mut context = self;
         for token in tokens {
-            mood = Mood {
-                depth: deeper(mood.depth, token),
+            context = Context {
+                depth: deeper(context.depth, token),
                 after: may_end(token),
             };
         }
-        mood
+        context
     }
 
     /// How many tokens are judged at once from one on that is this word. `widths` tells how many the parentheses have from
@@ -95,7 +95,7 @@ impl Mood {
         ensures few { result ≤ 2 ^ 32 }
     {
         match extension {
-            Extension::Attribute => doubled(widths) + 1,
+            Extension::Attribute => double_parens(widths) + 1,
             Extension::Assembler => self.assembler_size(widths),
             Extension::Other | Extension::Dropped | Extension::Inline | Extension::Const => 1,
         }
@@ -143,17 +143,17 @@ fn with_text(token: &Token, text: &Text) -> Result<Token, Memory>
 
 /// The words as which others are read, once for all tokens of a file.
 #[derive(Debug, Drop)]
-struct Standard {
+struct Replacements {
     inline: Text,
     constant: Text,
 }
 
-impl Standard {
+impl Replacements {
     /// `inline` and `const`.
-    fn new(alloc: Global) -> Result<Standard, Memory>
-        ensures { IfOk result (λ standard. AreStandard standard) }
+    fn new(alloc: Global) -> Result<Replacements, Memory>
+        ensures { IfOk result (λ replacements. AreReplacements replacements) }
     {
-        Ok(Standard {
+        Ok(Replacements {
             inline: Text::new(alloc, b"inline")?,
             constant: Text::new(alloc, b"const")?,
         })
@@ -161,7 +161,7 @@ impl Standard {
 
     /// The token, which is this word, with the word as which it is read.
     fn renamed(&self, extension: Extension, token: &Token) -> Result<Token, Memory>
-        requires { AreStandard self.now }
+        requires { AreReplacements self.now }
         ensures { IfOk result (λ other. other ≡ renamed_as extension token.now) }
     {
         match extension {
@@ -187,12 +187,12 @@ fn put_all(list: &mut List<Token>, tokens: &[Token]) -> Result<(), Memory>
 /// end. Time linear in their number.
 fn put_kept(
     list: &mut List<Token>,
-    standard: &Standard,
+    replacements: &Replacements,
     extension: Extension,
     first: &Token,
     held: &[Token],
 ) -> Result<(), Memory>
-    requires { AreStandard standard.now }
+    requires { AreReplacements replacements.now }
     ensures { OnOk result (list.new ≡ list.old ++ kept_as extension first.now held.now) }
 {
     match extension {
@@ -200,7 +200,7 @@ fn put_kept(
         Extension::Attribute => put_attribute(list, first, held),
         Extension::Assembler => put_assembler(list, first, held),
         Extension::Other | Extension::Inline | Extension::Const => {
-            list.push(standard.renamed(extension, first)?)
+            list.push(replacements.renamed(extension, first)?)
         }
     }
 }
@@ -252,9 +252,9 @@ pub fn kept(alloc: Global, tokens: &Tokens) -> Result<Tokens, Memory>
     ensures placed { IfOk result (λ kept. ArePlaced tokens.now → ArePlaced kept) }
 {
     let read = tokens.list.as_slice();
-    let standard = Standard::new(alloc)?;
+    let replacements = Replacements::new(alloc)?;
     let mut list = List::new(alloc);
-    let mut mood = Mood {
+    let mut context = Context {
         depth: 0,
         after: false,
     };
@@ -264,9 +264,9 @@ pub fn kept(alloc: Global, tokens: &Tokens) -> Result<Tokens, Memory>
     while at < read.len() {
         let first = &read[at];
         let word = extension_of(first);
-        let end = at + mood.size(word, &widths[at + 1..]);
-        put_kept(&mut list, &standard, word, first, &read[at + 1..end])?;
-        mood = mood.advance(&read[at..end]);
+        let end = at + context.size(word, &widths[at + 1..]);
+        put_kept(&mut list, &replacements, word, first, &read[at + 1..end])?;
+        context = context.advance(&read[at..end]);
         at = end;
     }
     let names = same_names(alloc, &tokens.names)?;

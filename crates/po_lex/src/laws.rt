@@ -1,4 +1,4 @@
-ghost use Rattle.std.specs.Prelude.{ℕ, ◌≡◌, ◌≤◌, ◌++◌, Bool, true, [], Some, map, length, List as Items};
+ghost use Rattle.std.specs.Prelude.{ℕ, ◌≡◌, ◌≤◌, ◌++◌, ◌^◌, Bool, true, false, [], Some, min, map, length, List as Items};
 ghost use Rattle.po_base.specs.declared.token.Token.{Token as Placed};
 ghost use Rattle.po_base.specs.declared.token.Tokens.{Tokens as Lists};
 ghost use Rattle.po_lex.specs.Division.{Part, Divides, AreTokens, ArePlaced, Fails, HasTooMany, Stands, start};
@@ -7,12 +7,14 @@ ghost use Rattle.po_lex.specs.Brackets.{State, outset};
 ghost use Rattle.po_lex.specs.Balance.{Balanced, steps};
 ghost use Rattle.po_lex.specs.Pieces.{ArePieces, IsPiece, IsMisshapen};
 ghost use Rattle.po_lex.specs.Laws.{StandInOrder, Cover};
-ghost use Rattle.po_lex.specs.Texts.{IsLiteral};
-ghost use Rattle.po_lex.specs.declared.keeping.Mood.{Mood as Before};
+ghost use Rattle.po_lex.specs.Directives.{directive_effect, plain, value};
+ghost use Rattle.po_lex.specs.Markers.{IsMarker};
+ghost use Rattle.po_lex.specs.Texts.{IsComment, IsLiteral};
+ghost use Rattle.po_lex.specs.declared.keeping.Context.{Context as Before};
 ghost use Rattle.po_lex.specs.declared.shape.Piece.{Piece as Range};
 
 use crate::effect::Effect;
-use crate::lead::Lead;
+use crate::part_kind::PartKind;
 
 /// The part that stands at a place is the longest: no text that is a part by itself, and with which the bytes there
 /// begin, has more bytes.
@@ -22,14 +24,27 @@ pub fn longest_part_stands()
 
 /// A string is a literal of C99 6.4.5 between `"`, and a character constant one of 6.4.4.4 between `'`.
 pub fn literals_are_those_of_c()
-    ensures strings { (fresh : Bool) (bytes : Items ℕ) (x : Part) (rest : Items ℕ) → Stands fresh bytes x rest → x.lead ≡ Lead.Str → IsLiteral 34 x.text }
-    ensures characters { (fresh : Bool) (bytes : Items ℕ) (x : Part) (rest : Items ℕ) → Stands fresh bytes x rest → x.lead ≡ Lead.Char → IsLiteral 39 x.text }
+    ensures strings { (fresh : Bool) (bytes : Items ℕ) (x : Part) (rest : Items ℕ) → Stands fresh bytes x rest → x.part_kind ≡ PartKind.Str → IsLiteral 34 x.text }
+    ensures characters { (fresh : Bool) (bytes : Items ℕ) (x : Part) (rest : Items ℕ) → Stands fresh bytes x rest → x.part_kind ≡ PartKind.Char → IsLiteral 39 x.text }
+{}
+
+/// A comment from `/*` on is one of C99 6.4.9; and where such a comment stands, whatever comes after it, it is the part
+/// that stands there.
+pub fn comments_are_those_of_c()
+    ensures only { (fresh : Bool) (bytes : Items ℕ) (x : Part) (rest : Items ℕ) → Stands fresh bytes x rest → x.part_kind ≡ PartKind.Comment → IsComment x.text }
+    ensures all { (fresh : Bool) (text rest : Items ℕ) → IsComment text → Stands fresh (text ++ rest) (record { part_kind = PartKind.Comment; text = text; effect = Effect.Silent }) rest }
 {}
 
 /// Where a literal of C99 stands, whatever comes after it, it is the part that stands there.
 pub fn literals_of_c_stand()
-    ensures strings { (fresh : Bool) (text rest : Items ℕ) → IsLiteral 34 text → Stands fresh (text ++ rest) (record { lead = Lead.Str; text = text; effect = Effect.Silent }) rest }
-    ensures characters { (fresh : Bool) (text rest : Items ℕ) → IsLiteral 39 text → Stands fresh (text ++ rest) (record { lead = Lead.Char; text = text; effect = Effect.Silent }) rest }
+    ensures strings { (fresh : Bool) (text rest : Items ℕ) → IsLiteral 34 text → Stands fresh (text ++ rest) (record { part_kind = PartKind.Str; text = text; effect = Effect.Silent }) rest }
+    ensures characters { (fresh : Bool) (text rest : Items ℕ) → IsLiteral 39 text → Stands fresh (text ++ rest) (record { part_kind = PartKind.Char; text = text; effect = Effect.Silent }) rest }
+{}
+
+/// A line marker, as gcc writes it for C99 6.10.4, is read as one: it gives its number, 2^31 standing for any greater one, and
+/// its name without escapes to the lines after it.
+pub fn line_markers_are_read()
+    ensures { (line digits name : Items ℕ) → IsMarker line digits name → directive_effect line ≡ Some (Effect.Named (min (2 ^ 31) (value 0 digits)) (plain false name)) }
 {}
 
 /// The bytes of a file have one division at most.

@@ -1,16 +1,16 @@
 ghost use Rattle.std.specs.Prelude.{ℕ, ◌≡◌, ◌+◌, ◌-◌, ◌<◌, ◌≤◌, ◌^◌, ◌++◌, ◌∷◌, [], ◌≢◌, length, take, drop, slice_index, IfOk, IfErr, OnOk, List as Items};
 ghost use Rattle.po_base.specs.declared.token.Token.{Token as Placed};
 ghost use Rattle.po_lex.specs.Bytes.{newlines};
-ghost use Rattle.po_lex.specs.Leads.{kind_of};
+ghost use Rattle.po_lex.specs.PartKinds.{token_kind_of};
 ghost use Rattle.po_lex.specs.Division.{Part, AreTokens, ArePlaced, Divides, Fails, HasTooMany, as_token, is_directive, moved, named_by, next_line, start, tokens_of};
 ghost use Rattle.po_lex.specs.Lexing.{IsKept, IsRead, HasCause, failure};
 ghost use Rattle.po_lex.specs.declared.lexing.LexFail.TheVariants.{Memory as NoMemory};
 
 use crate::bytes::is_blank;
 use crate::effect::Effect;
-use crate::lead::Lead;
-use crate::part::{Standing, part_of, rest_of};
-use crate::place::Place;
+use crate::part::{FoundPart, part_of, rest_of};
+use crate::part_kind::PartKind;
+use crate::position::Position;
 use po_base::{List, Memory, Text, Token, TokenKind, Tokens};
 use std::alloc::Global;
 use thiserror::Error;
@@ -81,22 +81,22 @@ fn put_part(
     list: &mut List<Token>,
     excess: bool,
     kind: Option<TokenKind>,
-    place: &Place,
+    position: &Position,
     file: &Text,
     at: usize,
     count: usize,
 ) -> Result<bool, Memory>
     requires { at + count ≤ length file.now }
-    ensures { IfOk result (λ now. (tokens : Items Placed) → IsKept excess list.old tokens → IsKept now list.new (tokens ++ as_token kind place.now (take count (drop at file.now)))) }
+    ensures { IfOk result (λ now. (tokens : Items Placed) → IsKept excess list.old tokens → IsKept now list.new (tokens ++ as_token kind position.now (take count (drop at file.now)))) }
 {
     match kind {
         Some(kind) => {
             let token = Token {
                 kind,
                 text: shared_text_at(file, at, count)?,
-                file: place.named,
-                line: place.next.saturating_sub(1),
-                own_line: place.own,
+                file: position.named,
+                line: position.next.saturating_sub(1),
+                own_line: position.own,
             };
             put(list, excess, token)
         }
@@ -122,7 +122,7 @@ struct Lexer {
     /// Whether the file has more tokens than the list may have.
     excess: bool,
     names: List<Text>,
-    place: Place,
+    position: Position,
 }
 
 impl Lexer {
@@ -136,7 +136,7 @@ impl Lexer {
             list: List::new(alloc),
             excess: false,
             names,
-            place: Place {
+            position: Position {
                 fresh: true,
                 next: 2,
                 own: 1,
@@ -147,36 +147,36 @@ impl Lexer {
 
     /// Reads a blank of this byte. Constant time.
     fn read_blank(&mut self, byte: u8)
-        requires own { self.old.place.own ≤ 2 ^ 25 }
-        requires next { self.old.place.next ≤ 2 ^ 31 + 2 ^ 25 }
-        ensures read { (name : Items ℕ) (front : Items Part) → IsRead name front self.old → IsRead name (front ++ record { lead = Lead.Blank; text = byte ∷ []; effect = Effect.Silent } ∷ []) self.new }
-        ensures place { self.new.place ≡ moved self.old.place (byte ∷ []) Effect.Silent }
+        requires own { self.old.position.own ≤ 2 ^ 25 }
+        requires next { self.old.position.next ≤ 2 ^ 31 + 2 ^ 25 }
+        ensures read { (name : Items ℕ) (front : Items Part) → IsRead name front self.old → IsRead name (front ++ record { part_kind = PartKind.Blank; text = byte ∷ []; effect = Effect.Silent } ∷ []) self.new }
+        ensures position { self.new.position ≡ moved self.old.position (byte ∷ []) Effect.Silent }
     {
-        self.place = self.place.past_blank(byte);
+        self.position = self.position.past_blank(byte);
     }
 
     /// Reads a part that stands in the file from `at` on. Constant time, but for the blanks at its end.
-    fn read(&mut self, file: &Text, at: usize, part: Standing) -> Result<(), Memory>
+    fn read(&mut self, file: &Text, at: usize, part: FoundPart) -> Result<(), Memory>
         requires within { at + part.end ≤ length file.now }
         requires short { part.end ≤ 2 ^ 24 }
         requires lines { part.lines ≡ newlines (take part.end (drop at file.now)) }
-        requires own { self.old.place.own ≤ 2 ^ 25 }
-        requires named { self.old.place.named ≤ 2 ^ 25 }
-        requires next { next_line part.effect self.old.place.next ≤ 2 ^ 31 + 2 ^ 25 }
-        ensures read { OnOk result ((name : Items ℕ) (front : Items Part) → IsRead name front self.old → IsRead name (front ++ record { lead = part.lead; text = take part.end (drop at file.now); effect = part.effect } ∷ []) self.new) }
-        ensures place { OnOk result (self.new.place ≡ moved self.old.place (take part.end (drop at file.now)) part.effect) }
+        requires own { self.old.position.own ≤ 2 ^ 25 }
+        requires named { self.old.position.named ≤ 2 ^ 25 }
+        requires next { next_line part.effect self.old.position.next ≤ 2 ^ 31 + 2 ^ 25 }
+        ensures read { OnOk result ((name : Items ℕ) (front : Items Part) → IsRead name front self.old → IsRead name (front ++ record { part_kind = part.part_kind; text = take part.end (drop at file.now); effect = part.effect } ∷ []) self.new) }
+        ensures position { OnOk result (self.new.position ≡ moved self.old.position (take part.end (drop at file.now)) part.effect) }
     {
         self.excess = put_part(
             &mut self.list,
             self.excess,
-            part.lead.kind(),
-            &self.place,
+            part.part_kind.token_kind_of(),
+            &self.position,
             file,
             at,
             part.end,
         )?;
         let text = text_at(file, at, part.end);
-        self.place = self.place.moved(text, part.lines, &part.effect);
+        self.position = self.position.moved(text, part.lines, &part.effect);
         put_name(&mut self.names, part.effect)
     }
 
@@ -196,14 +196,14 @@ impl Lexer {
 }
 
 /// Why no part stands at a place.
-fn no_part(place: &Place, bytes: &[u8]) -> LexFail
+fn no_part(position: &Position, bytes: &[u8]) -> LexFail
     requires { 0 < length bytes.now }
-    ensures { result ≡ failure (is_directive place.now.fresh bytes.now) place.now.own }
+    ensures { result ≡ failure (is_directive position.now.fresh bytes.now) position.now.own }
 {
-    if place.fresh && bytes[0] == b'#' {
-        LexFail::Directive { line: place.own }
+    if position.fresh && bytes[0] == b'#' {
+        LexFail::Directive { line: position.own }
     } else {
-        LexFail::Lex { line: place.own }
+        LexFail::Lex { line: position.own }
     }
 }
 
@@ -231,13 +231,13 @@ fn tokens_of_file(alloc: Global, name: &Text, file: &Text) -> Result<Tokens, Lex
             at += 1;
             continue;
         }
-        match part_of(alloc, file, at, lexer.place.fresh)? {
+        match part_of(alloc, file, at, lexer.position.fresh)? {
             Some(part) => {
                 let end = part.end;
                 lexer.read(file, at, part)?;
                 at += end;
             }
-            None => return Err(no_part(&lexer.place, rest_of(file, at))),
+            None => return Err(no_part(&lexer.position, rest_of(file, at))),
         }
     }
     lexer.finish()

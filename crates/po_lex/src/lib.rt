@@ -9,27 +9,27 @@ mod effect;
 mod extension;
 mod keeping;
 mod laws;
-mod lead;
 mod lexing;
+mod nesting;
 mod part;
-mod place;
+mod part_kind;
+mod position;
 mod row;
 mod shape;
 mod sign;
-mod walk;
 
 pub use effect::Effect;
 pub use extension::Extension;
-pub use keeping::{Mood, kept};
+pub use keeping::{Context, kept};
 pub use laws::{
-    balanced_brackets, kept_are_selected, literals_are_those_of_c, literals_of_c_stand,
-    longest_part_stands, one_division, one_failure, one_kept_list, one_piece_list,
-    one_shape_failure, one_token_list, pieces_are_balanced, pieces_cover, pieces_or_failure,
-    texts_stand_in_order, tokens_are_placed, tokens_or_failure,
+    balanced_brackets, comments_are_those_of_c, kept_are_selected, line_markers_are_read,
+    literals_are_those_of_c, literals_of_c_stand, longest_part_stands, one_division, one_failure,
+    one_kept_list, one_piece_list, one_shape_failure, one_token_list, pieces_are_balanced,
+    pieces_cover, pieces_or_failure, texts_stand_in_order, tokens_are_placed, tokens_or_failure,
 };
-pub use lead::Lead;
 pub use lexing::{LexFail, tokens};
-pub use place::Place;
+pub use nesting::Open;
+pub use part_kind::PartKind;
+pub use position::Position;
 pub use row::Row;
 pub use shape::{Piece, ShapeFail, pieces};
-pub use walk::Open;

@@ -1,13 +1,13 @@
 ghost use Rattle.std.specs.Prelude.{ℕ, ◌≡◌, ◌+◌, ◌-◌, ◌<◌, ◌≤◌, ◌++◌, ◌^◌, length, take, drop, slice_index, IfOk, IfSome, IfNone, IsTrue, false, List as Bytes, option_to_list};
 ghost use Rattle.po_lex.specs.Bytes.{newlines};
-ghost use Rattle.po_lex.specs.Leads.{lead_of, opening, row_of, closing, kind_of, lines};
+ghost use Rattle.po_lex.specs.PartKinds.{part_kind_of, opening, row_of, closing, token_kind_of, lines};
 ghost use Rattle.po_lex.specs.Rows.{skip};
-ghost use Rattle.po_lex.specs.Division.{IsSaid, Stands, NoneStands};
+ghost use Rattle.po_lex.specs.Division.{HasEffect, Stands, NoneStands};
 ghost use Rattle.po_lex.specs.declared.effect.Effect.{Effect as Said};
 
-use crate::directive::says;
+use crate::directive::directive_effect;
 use crate::effect::Effect;
-use crate::lead::{Lead, beginning};
+use crate::part_kind::{PartKind, part_kind_at};
 use crate::row::{Row, row_end, word_end};
 use crate::sign::sign_length;
 use po_base::{Memory, Text, TokenKind};
@@ -15,8 +15,8 @@ use std::alloc::Global;
 
 /// A part that stands at a place of a file: what it is, where it ends, how many lines end in it, and what it says.
 #[derive(Debug, Drop)]
-pub(crate) struct Standing {
-    pub lead: Lead,
+pub(crate) struct FoundPart {
+    pub part_kind: PartKind,
     pub end: usize,
     pub lines: u32,
     pub effect: Effect,
@@ -37,30 +37,35 @@ fn newlines(text: &[u8]) -> u32
     count
 }
 
-impl Lead {
+impl PartKind {
     /// How many bytes stand before the row begins. Time linear in the table of punctuators.
     fn opening(self, bytes: &[u8]) -> usize
         ensures { result ≡ opening self bytes.now }
     {
         match self {
-            Lead::Joined | Lead::Comment | Lead::Remark => 2,
-            Lead::Sign => sign_length(bytes),
-            Lead::Blank | Lead::Word | Lead::Number | Lead::Char | Lead::Str | Lead::Directive => 1,
+            PartKind::Splice | PartKind::Comment | PartKind::LineComment => 2,
+            PartKind::Punctuator => sign_length(bytes),
+            PartKind::Blank
+            | PartKind::Word
+            | PartKind::Number
+            | PartKind::Char
+            | PartKind::Str
+            | PartKind::Directive => 1,
         }
     }
 
     /// The row that goes on behind the opening bytes.
-    fn row(self) -> Row
+    fn row_of(self) -> Row
         ensures { result ≡ row_of self }
     {
         match self {
-            Lead::Comment => Row::Comment,
-            Lead::Remark | Lead::Directive => Row::Line,
-            Lead::Word => Row::Word,
-            Lead::Number => Row::Number,
-            Lead::Char => Row::Literal(b'\''),
-            Lead::Str => Row::Literal(b'"'),
-            Lead::Blank | Lead::Joined | Lead::Sign => Row::Nothing,
+            PartKind::Comment => Row::Comment,
+            PartKind::LineComment | PartKind::Directive => Row::Line,
+            PartKind::Word => Row::Word,
+            PartKind::Number => Row::Number,
+            PartKind::Char => Row::Literal(b'\''),
+            PartKind::Str => Row::Literal(b'"'),
+            PartKind::Blank | PartKind::Splice | PartKind::Punctuator => Row::Nothing,
         }
     }
 
@@ -69,30 +74,34 @@ impl Lead {
         ensures { option_to_list result ≡ closing self }
     {
         match self {
-            Lead::Comment => Some(b'/'),
-            Lead::Char => Some(b'\''),
-            Lead::Str => Some(b'"'),
-            Lead::Blank
-            | Lead::Joined
-            | Lead::Remark
-            | Lead::Word
-            | Lead::Number
-            | Lead::Directive
-            | Lead::Sign => None,
+            PartKind::Comment => Some(b'/'),
+            PartKind::Char => Some(b'\''),
+            PartKind::Str => Some(b'"'),
+            PartKind::Blank
+            | PartKind::Splice
+            | PartKind::LineComment
+            | PartKind::Word
+            | PartKind::Number
+            | PartKind::Directive
+            | PartKind::Punctuator => None,
         }
     }
 
     /// The kind of token that it is, where it is one.
-    pub(crate) fn kind(self) -> Option<TokenKind>
-        ensures { result ≡ kind_of self }
+    pub(crate) fn token_kind_of(self) -> Option<TokenKind>
+        ensures { result ≡ token_kind_of self }
     {
         match self {
-            Lead::Word => Some(TokenKind::Word),
-            Lead::Number => Some(TokenKind::Number),
-            Lead::Char => Some(TokenKind::Char),
-            Lead::Str => Some(TokenKind::Str),
-            Lead::Sign => Some(TokenKind::Punct),
-            Lead::Blank | Lead::Joined | Lead::Comment | Lead::Remark | Lead::Directive => None,
+            PartKind::Word => Some(TokenKind::Word),
+            PartKind::Number => Some(TokenKind::Number),
+            PartKind::Char => Some(TokenKind::Char),
+            PartKind::Str => Some(TokenKind::Str),
+            PartKind::Punctuator => Some(TokenKind::Punct),
+            PartKind::Blank
+            | PartKind::Splice
+            | PartKind::Comment
+            | PartKind::LineComment
+            | PartKind::Directive => None,
         }
     }
 }
@@ -105,10 +114,10 @@ fn byte_at(bytes: &[u8], at: usize) -> u8
 }
 
 /// What the bytes begin.
-fn lead_of(bytes: &[u8]) -> Lead
-    ensures { result ≡ lead_of bytes.now }
+fn part_kind_of(bytes: &[u8]) -> PartKind
+    ensures { result ≡ part_kind_of bytes.now }
 {
-    beginning(byte_at(bytes, 0), byte_at(bytes, 1))
+    part_kind_at(byte_at(bytes, 0), byte_at(bytes, 1))
 }
 
 /// Whether this byte stands at a place.
@@ -142,28 +151,28 @@ fn closed_end(bytes: &[u8], opening: usize, row: Row, closing: Option<u8>) -> Op
 
 /// Where the part ends that begins the bytes and whose row may need a closing byte; None where no part stands there.
 /// Time linear in its bytes.
-fn opened_end(bytes: &[u8], lead: Lead) -> Option<usize>
-    ensures begun { IfSome result (λ end. (0 < opening lead bytes.now) × (opening lead bytes.now ≤ length bytes.now)) }
-    ensures ended { IfSome result (λ end. skip (row_of lead) 0 (drop (opening lead bytes.now) bytes.now) ≡ closing lead ++ drop end bytes.now) }
+fn opened_end(bytes: &[u8], part_kind: PartKind) -> Option<usize>
+    ensures begun { IfSome result (λ end. (0 < opening part_kind bytes.now) × (opening part_kind bytes.now ≤ length bytes.now)) }
+    ensures ended { IfSome result (λ end. skip (row_of part_kind) 0 (drop (opening part_kind bytes.now) bytes.now) ≡ closing part_kind ++ drop end bytes.now) }
     ensures ends { IfSome result (λ end. (0 < end) × (end ≤ length bytes.now)) }
-    ensures none { IfNone result ((rest : Bytes ℕ) → 0 < opening lead bytes.now → opening lead bytes.now ≤ length bytes.now → skip (row_of lead) 0 (drop (opening lead bytes.now) bytes.now) ≡ closing lead ++ rest → ⊥) }
+    ensures none { IfNone result ((rest : Bytes ℕ) → 0 < opening part_kind bytes.now → opening part_kind bytes.now ≤ length bytes.now → skip (row_of part_kind) 0 (drop (opening part_kind bytes.now) bytes.now) ≡ closing part_kind ++ rest → ⊥) }
 {
-    let opening = lead.opening(bytes);
+    let opening = part_kind.opening(bytes);
     if opening == 0 {
         return None;
     }
     if bytes.len() < opening {
         return None;
     }
-    closed_end(bytes, opening, lead.row(), lead.closing())
+    closed_end(bytes, opening, part_kind.row_of(), part_kind.closing())
 }
 
 /// Where the punctuator that begins the bytes ends; None where none stands there.
 fn sign_end(bytes: &[u8]) -> Option<usize>
-    ensures begun { IfSome result (λ end. (0 < opening Lead.Sign bytes.now) × (opening Lead.Sign bytes.now ≤ length bytes.now)) }
-    ensures ended { IfSome result (λ end. skip (row_of Lead.Sign) 0 (drop (opening Lead.Sign bytes.now) bytes.now) ≡ closing Lead.Sign ++ drop end bytes.now) }
+    ensures begun { IfSome result (λ end. (0 < opening PartKind.Punctuator bytes.now) × (opening PartKind.Punctuator bytes.now ≤ length bytes.now)) }
+    ensures ended { IfSome result (λ end. skip (row_of PartKind.Punctuator) 0 (drop (opening PartKind.Punctuator bytes.now) bytes.now) ≡ closing PartKind.Punctuator ++ drop end bytes.now) }
     ensures ends { IfSome result (λ end. (0 < end) × (end ≤ length bytes.now)) }
-    ensures none { IfNone result ((rest : Bytes ℕ) → 0 < opening Lead.Sign bytes.now → opening Lead.Sign bytes.now ≤ length bytes.now → skip (row_of Lead.Sign) 0 (drop (opening Lead.Sign bytes.now) bytes.now) ≡ closing Lead.Sign ++ rest → ⊥) }
+    ensures none { IfNone result ((rest : Bytes ℕ) → 0 < opening PartKind.Punctuator bytes.now → opening PartKind.Punctuator bytes.now ≤ length bytes.now → skip (row_of PartKind.Punctuator) 0 (drop (opening PartKind.Punctuator bytes.now) bytes.now) ≡ closing PartKind.Punctuator ++ rest → ⊥) }
 {
     let end = sign_length(bytes);
     if end == 0 {
@@ -174,24 +183,24 @@ fn sign_end(bytes: &[u8]) -> Option<usize>
 
 /// Where the part that begins the bytes ends; None where no part stands there. Time linear in its bytes. Words and
 /// punctuators, which most parts are, need no closing byte.
-fn part_end(bytes: &[u8], lead: Lead) -> Option<usize>
+fn part_end(bytes: &[u8], part_kind: PartKind) -> Option<usize>
     requires { 0 < length bytes.now }
-    ensures begun { IfSome result (λ end. (0 < opening lead bytes.now) × (opening lead bytes.now ≤ length bytes.now)) }
-    ensures ended { IfSome result (λ end. skip (row_of lead) 0 (drop (opening lead bytes.now) bytes.now) ≡ closing lead ++ drop end bytes.now) }
+    ensures begun { IfSome result (λ end. (0 < opening part_kind bytes.now) × (opening part_kind bytes.now ≤ length bytes.now)) }
+    ensures ended { IfSome result (λ end. skip (row_of part_kind) 0 (drop (opening part_kind bytes.now) bytes.now) ≡ closing part_kind ++ drop end bytes.now) }
     ensures ends { IfSome result (λ end. (0 < end) × (end ≤ length bytes.now)) }
-    ensures none { IfNone result ((rest : Bytes ℕ) → 0 < opening lead bytes.now → opening lead bytes.now ≤ length bytes.now → skip (row_of lead) 0 (drop (opening lead bytes.now) bytes.now) ≡ closing lead ++ rest → ⊥) }
+    ensures none { IfNone result ((rest : Bytes ℕ) → 0 < opening part_kind bytes.now → opening part_kind bytes.now ≤ length bytes.now → skip (row_of part_kind) 0 (drop (opening part_kind bytes.now) bytes.now) ≡ closing part_kind ++ rest → ⊥) }
 {
-    match lead {
-        Lead::Word => Some(word_end(bytes, 1)),
-        Lead::Sign => sign_end(bytes),
-        Lead::Blank
-        | Lead::Joined
-        | Lead::Comment
-        | Lead::Remark
-        | Lead::Number
-        | Lead::Char
-        | Lead::Str
-        | Lead::Directive => opened_end(bytes, lead),
+    match part_kind {
+        PartKind::Word => Some(word_end(bytes, 1)),
+        PartKind::Punctuator => sign_end(bytes),
+        PartKind::Blank
+        | PartKind::Splice
+        | PartKind::Comment
+        | PartKind::LineComment
+        | PartKind::Number
+        | PartKind::Char
+        | PartKind::Str
+        | PartKind::Directive => opened_end(bytes, part_kind),
     }
 }
 
@@ -226,14 +235,14 @@ fn directive(
     requires short { length file.now < 2 ^ 32 }
     requires some { 0 < end }
     requires within { at + end ≤ length file.now }
-    ensures said { IfOk result (λ found. IfSome found (λ effect. IsSaid Lead.Directive fresh (take end (drop at file.now)) effect)) }
-    ensures none { IfOk result (λ found. IfNone found ((effect : Said) → IsSaid Lead.Directive fresh (take end (drop at file.now)) effect → ⊥)) }
+    ensures part_effect { IfOk result (λ found. IfSome found (λ effect. HasEffect PartKind.Directive fresh (take end (drop at file.now)) effect)) }
+    ensures none { IfOk result (λ found. IfNone found ((effect : Said) → HasEffect PartKind.Directive fresh (take end (drop at file.now)) effect → ⊥)) }
 {
     if !fresh {
         return Ok(None);
     }
     let line = behind_first(file, at, end)?;
-    match says(alloc, &line)? {
+    match directive_effect(alloc, &line)? {
         Some(effect) => {
             if effect.is_proper() {
                 Ok(Some(effect))
@@ -247,9 +256,9 @@ fn directive(
 
 /// What the part says whose `end` bytes stand in the file from `at` on; None where it is a directive that isn't allowed.
 /// Time linear in the bytes of a directive.
-fn said(
+fn part_effect(
     alloc: Global,
-    lead: Lead,
+    part_kind: PartKind,
     fresh: bool,
     file: &Text,
     at: usize,
@@ -258,32 +267,38 @@ fn said(
     requires short { length file.now < 2 ^ 32 }
     requires some { 0 < end }
     requires within { at + end ≤ length file.now }
-    ensures said { IfOk result (λ found. IfSome found (λ effect. IsSaid lead fresh (take end (drop at file.now)) effect)) }
-    ensures none { IfOk result (λ found. IfNone found ((effect : Said) → IsSaid lead fresh (take end (drop at file.now)) effect → ⊥)) }
+    ensures part_effect { IfOk result (λ found. IfSome found (λ effect. HasEffect part_kind fresh (take end (drop at file.now)) effect)) }
+    ensures none { IfOk result (λ found. IfNone found ((effect : Said) → HasEffect part_kind fresh (take end (drop at file.now)) effect → ⊥)) }
 {
-    match lead {
-        Lead::Directive => directive(alloc, fresh, file, at, end),
-        Lead::Blank
-        | Lead::Joined
-        | Lead::Comment
-        | Lead::Remark
-        | Lead::Word
-        | Lead::Number
-        | Lead::Char
-        | Lead::Str
-        | Lead::Sign => Ok(Some(Effect::Silent)),
+    match part_kind {
+        PartKind::Directive => directive(alloc, fresh, file, at, end),
+        PartKind::Blank
+        | PartKind::Splice
+        | PartKind::Comment
+        | PartKind::LineComment
+        | PartKind::Word
+        | PartKind::Number
+        | PartKind::Char
+        | PartKind::Str
+        | PartKind::Punctuator => Ok(Some(Effect::Silent)),
     }
 }
 
-impl Lead {
+impl PartKind {
     /// How many lines end in a part with these bytes. Tokens and directives aren't read again for it.
     fn lines(self, text: &[u8]) -> u32
         requires { length text.now < 2 ^ 32 }
         ensures { result ≡ lines self text.now }
     {
         match self {
-            Lead::Word | Lead::Number | Lead::Char | Lead::Str | Lead::Directive | Lead::Sign => 0,
-            Lead::Blank | Lead::Joined | Lead::Comment | Lead::Remark => newlines(text),
+            PartKind::Word
+            | PartKind::Number
+            | PartKind::Char
+            | PartKind::Str
+            | PartKind::Directive
+            | PartKind::Punctuator => 0,
+            PartKind::Blank | PartKind::Splice | PartKind::Comment | PartKind::LineComment =>
+                newlines(text),
         }
     }
 }
@@ -294,25 +309,25 @@ pub(crate) fn part_of(
     file: &Text,
     at: usize,
     fresh: bool,
-) -> Result<Option<Standing>, Memory>
+) -> Result<Option<FoundPart>, Memory>
     requires short { length file.now < 2 ^ 32 }
     requires within { at < length file.now }
-    ensures found { IfOk result (λ found. IfSome found (λ p. Stands fresh (drop at file.now) (record { lead = p.lead; text = take p.end (drop at file.now); effect = p.effect }) (drop p.end (drop at file.now)))) }
+    ensures found { IfOk result (λ found. IfSome found (λ p. Stands fresh (drop at file.now) (record { part_kind = p.part_kind; text = take p.end (drop at file.now); effect = p.effect }) (drop p.end (drop at file.now)))) }
     ensures ends { IfOk result (λ found. IfSome found (λ p. (0 < p.end) × (at + p.end ≤ length file.now))) }
     ensures lines { IfOk result (λ found. IfSome found (λ p. p.lines ≡ newlines (take p.end (drop at file.now)))) }
     ensures none { IfOk result (λ found. IfNone found (NoneStands fresh (drop at file.now))) }
 {
     let bytes = rest_of(file, at);
-    let lead = lead_of(bytes);
-    let end = match part_end(bytes, lead) {
+    let part_kind = part_kind_of(bytes);
+    let end = match part_end(bytes, part_kind) {
         Some(end) => end,
         None => return Ok(None),
     };
-    match said(alloc, lead, fresh, file, at, end)? {
-        Some(effect) => Ok(Some(Standing {
-            lead,
+    match part_effect(alloc, part_kind, fresh, file, at, end)? {
+        Some(effect) => Ok(Some(FoundPart {
+            part_kind,
             end,
-            lines: lead.lines(&bytes[..end]),
+            lines: part_kind.lines(&bytes[..end]),
             effect,
         })),
         None => Ok(None),

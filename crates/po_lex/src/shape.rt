@@ -6,7 +6,7 @@ ghost use Rattle.po_lex.specs.Shapes.{IsCaused};
 ghost use Rattle.po_lex.specs.declared.shape.ShapeFail.TheVariants.{Memory as NoMemory};
 ghost use Rattle.po_lex.specs.declared.shape.Piece.{Piece as Range};
 
-use crate::walk::{Walk, mark};
+use crate::nesting::{Nesting, mark};
 use po_base::{List, Memory, Tokens};
 use std::alloc::Global;
 use thiserror::Error;
@@ -57,12 +57,12 @@ pub fn pieces(alloc: Global, tokens: &Tokens) -> Result<List<Piece>, ShapeFail>
 {
     let list = tokens.list.as_slice();
     let mut pieces = List::new(alloc);
-    let mut walk = Walk::new(alloc);
+    let mut nesting = Nesting::new(alloc);
     let mut from = 0;
     for at in 0..list.len() {
         let token = &list[at];
-        let ends = walk.ends(token);
-        if !walk.step(token)? {
+        let ends = nesting.ends(token);
+        if !nesting.step(token)? {
             return Err(ShapeFail::Shape {
                 line: token.own_line,
             });
@@ -73,12 +73,12 @@ pub fn pieces(alloc: Global, tokens: &Tokens) -> Result<List<Piece>, ShapeFail>
                 to: at as u32 + 1,
                 body: mark(token) == b'}',
             })?;
-            walk = Walk::new(alloc);
+            nesting = Nesting::new(alloc);
             from = at + 1;
             continue;
         }
     }
-    if let Some(open) = walk.open.pop() {
+    if let Some(open) = nesting.open.pop() {
         return Err(ShapeFail::Shape { line: open.line });
     }
     if from < list.len() {

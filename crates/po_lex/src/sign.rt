@@ -1,6 +1,6 @@
 ghost use Rattle.std.specs.Prelude.{ℕ, ◌≡◌, ◌≤◌, ◌∷◌, length, map, IsTrue, nat_eq, List as Bytes};
 ghost use Rattle.std.specs.List.{starts_with};
-ghost use Rattle.po_lex.specs.Leads.{longest, signs};
+ghost use Rattle.po_lex.specs.PartKinds.{longest, signs};
 
 /// The punctuators of C99 6.4.6, without `#`, `##` and the digraphs.
 const SIGNS: [&[u8]; 46] = [

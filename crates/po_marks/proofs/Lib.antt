@@ -1,6 +1,13 @@
 pub mod Keys
 pub mod Values
 pub mod Marked
-pub mod Adds
+pub mod Places
+pub mod Apart
+pub mod Sets
+pub mod InLine
 pub mod Waits
+pub mod Adds
+pub mod Undone
+pub mod Added
 pub mod Draws
+pub mod Released

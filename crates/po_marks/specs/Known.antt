@@ -43,6 +43,11 @@ pub record SetsMark {P N : Type 0} (o : Obl P) (mark : Mark P N) (old new : List
   pub keys : map (λ e. e.0) new ≡ map (λ e. e.0) old
   pub marks : (p : Obl P) (m : Mark P N) → Contains new (p, m) ↔ (((p ≡ o) × (m ≡ mark)) ⊎ ((¬ (p ≡ o)) × Contains old (p, m)))
 
+-- The same obligations are known, in the same order: these have this mark, and all others have theirs.
+pub record SetsEach {P N : Type 0} (os : List (Obl P)) (mark : Mark P N) (old new : List (Obl P × Mark P N)) : Type 0 where
+  pub keys : map (λ e. e.0) new ≡ map (λ e. e.0) old
+  pub marks : (p : Obl P) (m : Mark P N) → Contains new (p, m) ↔ ((Contains os p × (m ≡ mark)) ⊎ ((¬ Contains os p) × Contains old (p, m)))
+
 -- The value that a key has, by a comparison of keys.
 pub record IsValueOf {K X : Type 0} (eq : K → K → Bool) (entries : List (K × X)) (key : K) (found : Option X) : Type 0 where
   pub is : found ≡ lookup (eq key) entries

@@ -1,14 +1,16 @@
-ghost use Rattle.std.specs.Prelude.{◌≡◌, ◌+◌, ◌<◌, ◌≤◌, ◌++◌, [], ◌∷◌, false, length, map, slice_get, slice_set, Some, IfOk};
+ghost use Rattle.std.specs.Prelude.{◌≡◌, ◌+◌, ◌<◌, ◌≤◌, ◌++◌, [], ◌∷◌, List, true, false, length, map, slice_get, Some, IfOk};
+ghost use Rattle.po_base.specs.declared.numbers.FileNo.{FileNo};
 ghost use Rattle.po_core.specs.Book.{file_of_obl};
 ghost use Rattle.po_core.specs.Core.{AreApart};
 ghost use Rattle.po_core.specs.declared.event.Mark.TheVariants.{Untaken, Taken};
 ghost use Rattle.po_marks.specs.Known.{AreRemarked};
-ghost use Rattle.po_marks.specs.Waiting.{AreWaiting, DrawsMore, DrawsOne, IsOpenHand, TakesFrom};
+ghost use Rattle.po_marks.specs.Waiting.{AreWaiting, IsOpenHand, SetsHold, TakesFrom, queue_len};
 ghost use Rattle.po_marks.specs.declared.queue.Queue.{Queue};
 
-use crate::entries::{Entries, set_mark, waits};
+use crate::entries::set_each;
+use crate::line::leave_front;
 use crate::marks::Marks;
-use crate::queue::{Queue, empty_queue, swap_queue};
+use crate::queue::{empty_queue, swap_queue};
 use po_base::{FileNo, Memory, Roomy};
 use po_core::{Mark, Obl, Rulebook};
 use std::alloc::Global;
@@ -41,7 +43,7 @@ pub fn room_to_draw<P: Copy + Eq + Hash, N: Copy>(
 ) -> Result<(usize, Drawn<P>), Memory>
     requires { file.0 < length marks.now.queues }
     ensures none { IfOk result (λ r. (r.1.items.items ≡ []) × (r.1.hand.items ≡ [])) }
-    ensures count { IfOk result (λ r. (q : Queue P) → slice_get marks.now.queues file.0 ≡ Some q → length q.back + length q.fresh ≡ r.0) }
+    ensures count { IfOk result (λ r. (q : Queue P) → slice_get marks.now.queues file.0 ≡ Some q → queue_len q ≡ r.0) }
     ensures room { IfOk result (λ r. (r.0 ≤ r.1.items.spare) × (r.0 ≤ r.1.hand.spare)) }
 {
     let queue = &marks.queues[file.0 as usize];
@@ -64,52 +66,23 @@ fn keep<P: Copy>(drawn: &mut Drawn<P>, o: Obl<P>)
     drawn.hand.push((o, false)).unwrap();
 }
 
-/// Draws an obligation, where it is untaken.
-fn draw_one<R: Rulebook>(
-    book: &R,
-    known: &mut Entries<R::Pred, R::Rule>,
-    o: Obl<R::Pred>,
-    drawn: &mut Drawn<R::Pred>,
-)
-    requires apart { AreApart (map (λ e. e.0) known.old.entries) }
-    requires items { 0 < drawn.old.items.spare }
-    requires hand { 0 < drawn.old.hand.spare }
-    requires open { IsOpenHand drawn.old.hand.items drawn.old.items.items }
-    ensures draws { DrawsOne o known.old.entries known.new.entries drawn.old.items.items drawn.new.items.items }
-    ensures open { IsOpenHand drawn.new.hand.items drawn.new.items.items }
-    ensures room { drawn.old.items.spare ≤ drawn.new.items.spare + 1 }
-    ensures hand_room { drawn.old.hand.spare ≤ drawn.new.hand.spare + 1 }
-{
-    if waits(book, known, &o) {
-        set_mark(book, known, o, Mark::Taken);
-        keep(drawn, o);
-    }
-}
-
-/// Draws those of some obligations that are untaken. Time: their number, on the average.
-fn draw_each<R: Rulebook>(
-    book: &R,
-    known: &mut Entries<R::Pred, R::Rule>,
-    waiting: &[Obl<R::Pred>],
-    drawn: &mut Drawn<R::Pred>,
-)
-    requires apart { AreApart (map (λ e. e.0) known.old.entries) }
+/// Puts each of some obligations to those drawn. Time: their number.
+fn keep_each<P: Copy>(drawn: &mut Drawn<P>, waiting: &[Obl<P>])
     requires items { length waiting.now ≤ drawn.old.items.spare }
     requires hand { length waiting.now ≤ drawn.old.hand.spare }
     requires open { IsOpenHand drawn.old.hand.items drawn.old.items.items }
-    ensures draws { DrawsMore waiting.now known.old.entries known.new.entries drawn.old.items.items drawn.new.items.items }
-    ensures keys { map (λ e. e.0) known.new.entries ≡ map (λ e. e.0) known.old.entries }
+    ensures items { drawn.new.items.items ≡ drawn.old.items.items ++ waiting.now }
     ensures open { IsOpenHand drawn.new.hand.items drawn.new.items.items }
     ensures room { drawn.old.items.spare ≤ drawn.new.items.spare + length waiting.now }
     ensures hand_room { drawn.old.hand.spare ≤ drawn.new.hand.spare + length waiting.now }
 {
-    for at in 0..waiting.len() {
-        draw_one(book, known, waiting[at], drawn);
+    for o in waiting {
+        keep(drawn, *o);
     }
 }
 
-/// Takes all that is untaken in a file: it is the items that are drawn, and nothing waits in the file any more. It takes no memory.
-/// Time: what the file's queue has, on the average.
+/// Takes all that is untaken in the file that stands first in line: it is the items that are drawn, nothing waits in the file any
+/// more, and it is held. It takes no memory. Time: the number of the items, on the average.
 pub fn draw<R: Rulebook>(
     alloc: Global,
     book: &R,
@@ -120,17 +93,21 @@ pub fn draw<R: Rulebook>(
     requires apart { AreApart (map (λ e. e.0) marks.old.items) }
     requires waiting { AreWaiting (R.meaning book.now) marks.old }
     requires there { file.0 < length marks.old.queues }
+    requires first { (rest : List FileNo) × (marks.old.line ≡ file ∷ rest) }
     requires none { (drawn.old.items.items ≡ []) × (drawn.old.hand.items ≡ []) }
-    requires items { (q : Queue R.Pred) → slice_get marks.old.queues file.0 ≡ Some q → length q.back + length q.fresh ≤ drawn.old.items.spare }
-    requires hand { (q : Queue R.Pred) → slice_get marks.old.queues file.0 ≡ Some q → length q.back + length q.fresh ≤ drawn.old.hand.spare }
+    requires items { (q : Queue R.Pred) → slice_get marks.old.queues file.0 ≡ Some q → queue_len q ≤ drawn.old.items.spare }
+    requires hand { (q : Queue R.Pred) → slice_get marks.old.queues file.0 ≡ Some q → queue_len q ≤ drawn.old.hand.spare }
     ensures takes { TakesFrom (R.meaning book.now) marks.old.items file drawn.new.items.items }
     ensures open { IsOpenHand drawn.new.hand.items drawn.new.items.items }
-    ensures count { (q : Queue R.Pred) → slice_get marks.old.queues file.0 ≡ Some q → length drawn.new.items.items ≤ length q.back + length q.fresh }
+    ensures count { (q : Queue R.Pred) → slice_get marks.old.queues file.0 ≡ Some q → length drawn.new.items.items ≡ queue_len q }
     ensures marks { AreRemarked (λ o. file_of_obl (R.meaning book.now) o ≡ file) Untaken Taken marks.old.items marks.new.items }
     ensures waiting { AreWaiting (R.meaning book.now) marks.new }
-    ensures queues { marks.new.queues ≡ slice_set marks.old.queues file.0 (record { back = []; fresh = [] }) }
+    ensures holds { SetsHold file true marks.old.queues marks.new.queues }
 {
-    let queue = swap_queue(&mut marks.queues, file, empty_queue(alloc));
-    draw_each(book, &mut marks.known, queue.back.as_slice(), drawn);
-    draw_each(book, &mut marks.known, queue.fresh.as_slice(), drawn);
+    leave_front(&mut marks.line);
+    let queue = swap_queue(&mut marks.queues, file, empty_queue(alloc, true));
+    keep_each(drawn, queue.back.as_slice());
+    keep_each(drawn, queue.fresh.as_slice());
+    set_each(book, &mut marks.known, drawn.items.as_slice(), Mark::Taken);
+    marks.untaken -= drawn.items.len();
 }

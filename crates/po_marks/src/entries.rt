@@ -1,9 +1,12 @@
-ghost use Rattle.std.specs.Prelude.{◌≡◌, ◌++◌, ◌↔◌, ◌<◌, [], ◌∷◌, length, map, slice_index_or, IsTrue, IfSome, IfNone, OnOk, OnErr, None};
+ghost use Rattle.std.specs.Prelude.{◌≡◌, ◌++◌, ◌↔◌, ◌<◌, [], ◌∷◌, length, map, slice_index_or, IsTrue, IfSome, IfNone, IsOk, OnOk, OnErr, None};
 ghost use Rattle.std.specs.List.{Contains};
+ghost use Rattle.indexmap.specs.IndexMap.{spare};
 ghost use Rattle.po_core.specs.Core.{AreApart};
+ghost use Rattle.po_core.specs.declared.event.Mark.{Mark};
 ghost use Rattle.po_core.specs.declared.event.Mark.TheVariants.{Untaken, Taken, Settled};
+ghost use Rattle.po_core.specs.declared.obl.Obl.{Obl};
 ghost use Rattle.po_core.specs.declared.obl.Verdict.{Verdict};
-ghost use Rattle.po_marks.specs.Known.{HasKey, HasVerdict, IsValueOf, PutsValue, SetsMark};
+ghost use Rattle.po_marks.specs.Known.{HasKey, HasVerdict, IsValueOf, PutsValue, SetsEach, SetsMark};
 
 use indexmap::IndexMap;
 use po_base::Memory;
@@ -33,6 +36,7 @@ fn put_value<K: Eq + Hash + Drop, V: Drop>(
     ensures ok { OnOk result (PutsValue K.eq key value map.old.entries map.new.entries) }
     ensures err { OnErr result (map.new.entries ≡ map.old.entries) }
     ensures absent { OnErr result (IsValueOf K.eq map.old.entries key None) }
+    ensures succeeds { 0 < spare map.old → IsOk result }
 {
     match map.insert(key, value) {
         Ok(_) => Ok(()),
@@ -73,16 +77,6 @@ fn is_settled<P: Copy, N: Copy>(mark: Mark<P, N>) -> bool
     }
 }
 
-/// Whether a mark says that an obligation is untaken.
-pub fn is_untaken<P: Copy, N: Copy>(mark: Mark<P, N>) -> bool
-    ensures { IsTrue result ↔ (mark ≡ Untaken) }
-{
-    match mark {
-        Mark::Untaken => true,
-        _ => false,
-    }
-}
-
 /// Whether a mark says that an obligation is taken.
 fn is_taken<P: Copy, N: Copy>(mark: Mark<P, N>) -> bool
     ensures { IsTrue result ↔ (mark ≡ Taken) }
@@ -108,21 +102,6 @@ pub fn has_verdict<R: Rulebook>(
     }
 }
 
-/// Whether an obligation is untaken, in constant time on the average.
-pub(crate) fn waits<R: Rulebook>(
-    book: &R,
-    known: &Entries<R::Pred, R::Rule>,
-    o: &Obl<R::Pred>,
-) -> bool
-    requires { AreApart (map (λ e. e.0) known.now.entries) }
-    ensures { IsTrue result ↔ Contains known.now.entries (o.now, Untaken) }
-{
-    match mark_of(book, known, o) {
-        Some(mark) => is_untaken(mark),
-        None => false,
-    }
-}
-
 /// Whether an obligation is taken, in constant time on the average.
 pub(crate) fn is_in_hand<R: Rulebook>(
     book: &R,
@@ -138,18 +117,43 @@ pub(crate) fn is_in_hand<R: Rulebook>(
     }
 }
 
-/// Makes a new obligation known, untaken. After `Memory` nothing has changed. In constant time on the average.
+/// Makes room for one more obligation. The obligations are the same, also after `Memory`. In constant time on the average.
+pub(crate) fn make_room<P: Copy + Eq + Hash, N: Copy>(
+    known: &mut Entries<P, N>,
+) -> Result<(), Memory>
+    ensures entries { known.new.entries ≡ known.old.entries }
+    ensures room { OnOk result (0 < spare known.new) }
+{
+    known.reserve(1)?;
+    Ok(())
+}
+
+/// Makes a new obligation known, untaken, where there is room for it. It takes no memory, and constant time on the average.
 pub(crate) fn insert_new<R: Rulebook>(
     book: &R,
     known: &mut Entries<R::Pred, R::Rule>,
     o: Obl<R::Pred>,
-) -> Result<(), Memory>
-    requires { ¬ HasKey known.old.entries o }
-    ensures ok { OnOk result (known.new.entries ≡ known.old.entries ++ (o, Untaken) ∷ []) }
-    ensures err { OnErr result (known.new.entries ≡ known.old.entries) }
+)
+    requires new { ¬ HasKey known.old.entries o }
+    requires room { 0 < spare known.old }
+    ensures { known.new.entries ≡ known.old.entries ++ (o, Untaken) ∷ [] }
 {
     let _book = book;
-    put_value(known, o, Mark::Untaken)
+    match put_value(known, o, Mark::Untaken) {
+        Ok(()) => {}
+        Err(Memory) => unreachable!(),
+    }
+}
+
+/// Takes the last obligation out again, in constant time on the average.
+pub(crate) fn pop_last<P: Copy + Eq + Hash, N: Copy>(known: &mut Entries<P, N>) -> Obl<P>
+    requires { 0 < length known.old.entries }
+    ensures { (mark : Mark P N) × (known.old.entries ≡ known.new.entries ++ (result, mark) ∷ []) }
+{
+    match known.pop() {
+        Some((o, _)) => o,
+        None => unreachable!(),
+    }
 }
 
 /// Gives a known obligation a mark. It takes no memory, and constant time on the average.
@@ -167,6 +171,23 @@ pub(crate) fn set_mark<R: Rulebook>(
     match put_value(known, o, mark) {
         Ok(()) => {}
         Err(Memory) => unreachable!(),
+    }
+}
+
+/// Gives each of some known obligations a mark. It takes no memory. Time: their number, on the average.
+pub(crate) fn set_each<R: Rulebook>(
+    book: &R,
+    known: &mut Entries<R::Pred, R::Rule>,
+    os: &[Obl<R::Pred>],
+    mark: Mark<R::Pred, R::Rule>,
+)
+    requires there { (o : Obl R.Pred) → Contains os.now o → HasKey known.old.entries o }
+    requires apart { AreApart (map (λ e. e.0) known.old.entries) }
+    requires once { AreApart os.now }
+    ensures { SetsEach os.now mark known.old.entries known.new.entries }
+{
+    for o in os {
+        set_mark(book, known, *o, mark);
     }
 }
 

@@ -1,43 +1,51 @@
-ghost use Rattle.std.specs.Prelude.{◌≡◌, ◌↔◌, ◌<◌, [], map, length, take, replicate, slice_get, Some, IfOk, IfSome, IfNone};
-ghost use Rattle.std.specs.List.{Contains};
-ghost use Rattle.po_core.specs.Core.{AreApart};
-ghost use Rattle.po_core.specs.declared.event.Mark.TheVariants.{Untaken};
-ghost use Rattle.po_marks.specs.Waiting.{all_of};
-ghost use Rattle.po_marks.specs.declared.queue.Queue.{Queue};
+ghost use Rattle.std.specs.Prelude.{◌≡◌, ◌<◌, ◌≤◌, ◌+◌, [], ◌∷◌, List, false, length, replicate, MatchOption, IfOk};
+ghost use Rattle.po_base.specs.declared.numbers.FileNo.{FileNo};
+ghost use Rattle.po_marks.specs.Waiting.{waiting_count};
 
-use crate::entries::{Entries, waits};
-use crate::queue::{Queue, empty_queues, queue_at};
+use crate::entries::Entries;
+use crate::line::{Line, empty_line};
+use crate::queue::{Queue, empty_queues};
 use indexmap::IndexMap;
 use po_base::{FileNo, Memory};
-use po_core::{Mark, Obl, Rulebook};
+use po_core::{Mark, Obl};
 use std::alloc::Global;
 use std::hash::Hash;
 use std::marker::Model;
 
-/// The known obligations with their marks, in the order in which they became known, and what waits in each file.
+/// The known obligations with their marks, in the order in which they became known, what waits in each file, and which files can
+/// be taken.
 #[derive(Drop)]
 pub struct Marks<P: Copy + Eq + Hash, N: Copy> {
     pub(crate) known: IndexMap<Obl<P>, Mark<P, N>>,
     pub(crate) queues: Vec<Queue<P>>,
+    pub(crate) line: Line,
+    pub(crate) untaken: usize,
 }
 
 impl<P: Copy + Eq + Hash, N: Copy> Model for Marks<P, N> {
-    ghost use Rattle.po_marks.specs.Waiting.{Marking};
+    ghost use Rattle.std.specs.Prelude.{◌≡◌, ◌≤◌, length};
+    ghost use Rattle.std.specs.VecDeque.{deque_capacity};
+    ghost use Rattle.po_marks.specs.Waiting.{Marking, waiting_count};
 
     ghost Value = { Marking P N };
 
-    ghost view = { λ m. record { items = m.known.entries; queues = m.queues.items } };
+    ghost view = { λ m. record { items = m.known.entries; queues = m.queues.items; line = m.line.items } };
+
+    ghost invariant = { λ m. (m.untaken ≡ waiting_count m.queues.items) × (length m.queues.items ≤ deque_capacity m.line) };
 }
 
 impl<P: Copy + Eq + Hash, N: Copy> Marks<P, N> {
     /// Nothing is known, of so many files.
     pub(crate) fn new(alloc: Global, files: u32) -> Result<Marks<P, N>, Memory>
         ensures items { IfOk result (λ m. m.items ≡ []) }
-        ensures queues { IfOk result (λ m. m.queues ≡ replicate files (record { back = []; fresh = [] })) }
+        ensures queues { IfOk result (λ m. m.queues ≡ replicate files (record { back = []; fresh = []; is_held = false })) }
+        ensures line { IfOk result (λ m. m.line ≡ []) }
     {
         Ok(Marks {
             known: IndexMap::new(alloc),
             queues: empty_queues(alloc, files)?,
+            line: empty_line(alloc, files)?,
+            untaken: 0,
         })
     }
 
@@ -48,49 +56,29 @@ impl<P: Copy + Eq + Hash, N: Copy> Marks<P, N> {
         &self.known
     }
 
-    /// Cuts back to so many obligations. It takes no memory.
-    pub fn truncate(&mut self, count: usize)
-        ensures items { self.new.items ≡ take count self.old.items }
-        ensures queues { self.new.queues ≡ self.old.queues }
+    /// How many obligations wait in the files, in constant time.
+    pub fn waiting_count(&self) -> usize
+        ensures { result ≡ waiting_count self.now.queues }
     {
-        self.known.truncate(count);
+        self.untaken
     }
-}
 
-/// Whether one of some obligations is untaken. Time: how many of the first aren't.
-fn any_untaken<R: Rulebook>(
-    book: &R,
-    known: &Entries<R::Pred, R::Rule>,
-    waiting: &[Obl<R::Pred>],
-) -> Option<Obl<R::Pred>>
-    requires { AreApart (map (λ e. e.0) known.now.entries) }
-    ensures some { IfSome result (λ o. Contains waiting.now o × Contains known.now.entries (o, Untaken)) }
-    ensures none { IfNone result ((o : Obl R.Pred) → Contains waiting.now o → ¬ Contains known.now.entries (o, Untaken)) }
-{
-    for at in 0..waiting.len() {
-        let o = waiting[at];
-        if waits(book, known, &o) {
-            return Some(o);
+    /// The file that can be taken for the longest time, where one can be, in constant time.
+    pub fn first_in_line(&self) -> Option<FileNo>
+        ensures { MatchOption result (self.now.line ≡ []) (λ file. (rest : List FileNo) × (self.now.line ≡ file ∷ rest)) }
+    {
+        if self.line.is_empty() {
+            return None;
         }
+        Some(self.line[0])
     }
-    None
 }
 
-/// An untaken obligation of a file, where there is one. Time: how many of the file's queue are waiting no more before the first that
-/// is, and those leave the queue when the file is taken.
-pub fn first_untaken<R: Rulebook>(
-    book: &R,
-    marks: &Marks<R::Pred, R::Rule>,
-    file: FileNo,
-) -> Option<Obl<R::Pred>>
-    requires apart { AreApart (map (λ e. e.0) marks.now.items) }
-    requires there { file.0 < length marks.now.queues }
-    ensures some { IfSome result (λ o. Contains marks.now.items (o, Untaken) × ((q : Queue R.Pred) → slice_get marks.now.queues file.0 ≡ Some q → Contains (all_of q) o)) }
-    ensures none { IfNone result ((q : Queue R.Pred) → slice_get marks.now.queues file.0 ≡ Some q → (o : Obl R.Pred) → Contains (all_of q) o → ¬ Contains marks.now.items (o, Untaken)) }
+/// A count with more to it, of obligations that are known.
+pub(crate) fn counted(count: usize, more: usize, known: usize) -> usize
+    requires { count + more ≤ known }
+    ensures { result ≡ count + more }
 {
-    let queue = queue_at(&marks.queues, file);
-    match any_untaken(book, &marks.known, queue.back.as_slice()) {
-        Some(o) => Some(o),
-        None => any_untaken(book, &marks.known, queue.fresh.as_slice()),
-    }
+    let _most = known;
+    count + more
 }

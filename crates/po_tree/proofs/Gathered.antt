@@ -10,7 +10,8 @@ use Rattle.po_tree.specs.declared.expression.Specifier.TheVariants as sp
 use Rattle.po_tree.specs.declared.expression.Member.{Member, out-Member}
 use Rattle.po_tree.specs.declared.names.Declared.{Declared}
 use Rattle.po_tree.specs.Scope.{Enumerates, listed, in_member, Tags, of_struct, of_enum, in_body, Somewhere}
-use Rattle.po_tree.specs.Gathering.{Adds, AddsSpec, in_members}
+use Rattle.po_tree.specs.NameSets.{Adds}
+use Rattle.po_tree.specs.Gathering.{AddsSpec, in_members}
 use Rattle.po_tree.proofs.Sets.{adds_then, adds_none, adds_along, none_contained, first_or_later, is_first, is_later}
 
 -- some item of a list is such

@@ -4,6 +4,9 @@ pub mod Gathered
 pub mod Counts
 pub mod Waiting
 pub mod Behind
+pub mod Ascending
+pub mod Scopes
+pub mod SameNames
 pub mod Weights
 pub mod Thin
 pub mod Squares

@@ -1,7 +1,9 @@
 -- Sets of names, as ascending lists.
-use Rattle.std.proofs.Common.{◌≡◌, ℕ, zero, suc, List, [], ◌∷◌, ◌++◌, map, ap, sym, ◌∙◌, refl, subst, arith, true, ◌⊎◌, inl, inr, ◌↔◌, append_assoc, append-nil}
+use Rattle.std.proofs.Common.{◌≡◌, ℕ, zero, suc, List, [], ◌∷◌, ◌++◌, map, ap, sym, ◌∙◌, refl, subst, arith, true, false, ◌⊎◌, inl, inr, ◌↔◌, append_assoc, append-nil}
 use Rattle.std.specs.Prelude.{Contains}
 use Rattle.std.specs.List.{list_any}
+use Rattle.std.specs.Str.{bytes_eq}
+use Rattle.std.proofs.lemmas.Slice.Eq.{bytes_eq-Decides}
 use Rattle.std.specs.declared.cmp.Ordering.{Ordering}
 use Rattle.std.specs.declared.cmp.Ordering.TheVariants.{Less, Equal, Greater}
 use Rattle.std.specs.Ordering.{nat_cmp, match_ordering}
@@ -13,7 +15,7 @@ use Rattle.std.proofs.lemmas.Map.Views.{Contains-from_any, list_any-from_Contain
 use Rattle.std.proofs.lemmas.Map.Lookups.{exact_bytes}
 use Rattle.std.proofs.lemmas.List.{map_push}
 use Rattle.std.proofs.lemmas.List.Elements.{Contains-append_left, Contains-push_cases, Contains-push}
-use Rattle.po_tree.specs.Gathering.{Adds, Keeps}
+use Rattle.po_tree.specs.NameSets.{Adds, Hides}
 
 tells : (o : Ordering) → is_at {K = ℕ} (λ _. o) 0 ≡ true → o ≡ Equal
 tells Less h = cc
@@ -113,33 +115,31 @@ adds_name ks k p r = adds_then p r
 pub none_contained : {A : Type 0} (x : A) → Contains [] x → ⊥
 none_contained x c = let q = c.1 in omega (arith, q)
 
-pub keeps_none : (one other : List (List ℕ)) → Keeps [] one other []
-keeps_none one other = record { each = λ x. (λ c. absurd (none_contained x c), λ h. h.0) }
+-- names are the same or not
+pub same_or : (a b : List ℕ) → (a ≡ b) ⊎ (a ≡ b → ⊥)
+same_or a b =
+    elim (bytes_eq a b) as (λ v. bytes_eq a b ≡ v → (a ≡ b) ⊎ (a ≡ b → ⊥)) [
+      | true ↦ (λ q. inl ((bytes_eq-Decides a b).0 q))
+      | false ↦ (λ q. inr (λ e. let bad : true ≡ false = sym ((bytes_eq-Decides a b).1 e) ∙ q in absurd (cc)))
+    ] refl
 
-pub keeps_more : {one other kept kept' : List (List ℕ)} (ks : List (List ℕ)) (k : List ℕ) → Keeps ks one other kept →
-    (Contains one k → ⊥) → (Contains other k → ⊥) → Adds (λ x. k ≡ x) kept kept' → Keeps (ks ++ k ∷ []) one other kept'
-keeps_more {one = one} {other = other} ks k keeps out out' adds = record {
-  each = λ x. (
-    λ c. elim ((adds.each x).0 c) [
-      | inl r ↦ let h = (keeps.each x).0 r in (Contains-append_left ks (k ∷ []) x h.0, h.1, h.2)
-      | inr q ↦ (subst (Contains (ks ++ k ∷ [])) q (Contains-push ks k), λ c. out (subst (Contains one) (sym q) c), λ c. out' (subst (Contains other) (sym q) c))
-    ],
-    λ h. elim (Contains-push_cases ks k x h.0) [
-      | inl c ↦ (adds.each x).1 (inl ((keeps.each x).1 (c, h.1, h.2)))
-      | inr q ↦ (adds.each x).1 (inr q)
-    ],
-  );
-}
+-- a name is in a set or not
+pub decide_in : (ys : List (List ℕ)) (x : List ℕ) → Contains ys x ⊎ (Contains ys x → ⊥)
+decide_in [] x = inr (λ c. none_contained x c)
+decide_in (y ∷ ys) x = elim (same_or y x) [
+  | inl q ↦ inl (0, omega arith, q)
+  | inr n ↦ elim (decide_in ys x) [ inl c ↦ inl (is_later y ys x c) | inr m ↦ inr (λ c. elim (first_or_later y ys x c) [ inl q ↦ n q | inr r ↦ m r ]) ]
+]
 
-pub keeps_same : {one other kept : List (List ℕ)} (ks : List (List ℕ)) (k : List ℕ) → Keeps ks one other kept →
-    Contains one k ⊎ Contains other k → Keeps (ks ++ k ∷ []) one other kept
-keeps_same {one = one} {other = other} ks k keeps hidden = record {
+-- names one after the other are taken away
+pub hides_none : {P : List ℕ → Type 0} (a : List (List ℕ)) → ((x : List ℕ) → P x → ⊥) → Hides P a a
+hides_none a none = record { each = λ x. (λ c. (c, none x), λ h. h.0) }
+
+pub hides_name : {before now behind : List (List ℕ)} (ks : List (List ℕ)) (k : List ℕ) → Hides (Contains ks) before now → Hides (λ x. k ≡ x) now behind → Hides (Contains (ks ++ k ∷ [])) before behind
+hides_name ks k p r = record {
   each = λ x. (
-    λ c. let h = (keeps.each x).0 c in (Contains-append_left ks (k ∷ []) x h.0, h.1, h.2),
-    λ h. elim (Contains-push_cases ks k x h.0) [
-      | inl c ↦ (keeps.each x).1 (c, h.1, h.2)
-      | inr q ↦ absurd (elim hidden [ inl c ↦ h.1 (subst (Contains one) q c) | inr c ↦ h.2 (subst (Contains other) q c) ])
-    ],
+    λ c. let h = (r.each x).0 c in let g = (p.each x).0 h.0 in (g.0, λ d. elim (Contains-push_cases ks k x d) [ inl e ↦ g.1 e | inr q ↦ h.1 q ]),
+    λ h. (r.each x).1 ((p.each x).1 (h.0, λ c. h.1 (Contains-append_left ks (k ∷ []) x c)), λ q. h.1 (subst (Contains (ks ++ k ∷ [])) q (Contains-push ks k))),
   );
 }
 

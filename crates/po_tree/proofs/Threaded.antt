@@ -14,13 +14,10 @@ use Rattle.po_tree.specs.declared.declaration.Decl.{Decl}
 use Rattle.po_tree.specs.Expressions.{Typed}
 use Rattle.po_tree.specs.Declarations.{without, Specs, no_more_specs, storage_class, inline_word, qualifier, type_word, typedef_name, struct_tag, struct_body, enum_tag, enum_body, Enumerators, no_more_items, item as plain_item, valued_item, Members, no_more_members, members as more_members, IsDeclarator, declarator, IsTypedef, Declares, new_type, other as other_word, Parts, no_more_parts, part as plain_part, initialised, Declared, declared, IsPiece, lone, declaration}
 use Rattle.po_tree.specs.Scope.{Enumerates, listed, in_member, Somewhere, HasWord, IsTypeBehind}
+use Rattle.po_tree.specs.NameSets.{Hides}
 use Rattle.po_tree.specs.Gathering.{in_members}
-use Rattle.po_tree.proofs.Sets.{first_or_later, is_first, is_later, none_contained}
+use Rattle.po_tree.proofs.Sets.{first_or_later, is_first, is_later, none_contained, same_or}
 use Rattle.po_tree.proofs.Gathered.{body_enumerates, enumerates_body, struct_enumerates_none, enum_enumerates, enum_enumerates_none}
-
--- behind are those of the names before that aren't such
-record Hides (P : List ℕ → Type 0) (before behind : List (List ℕ)) : Type 0 where
-  each : (x : List ℕ) → Contains behind x ↔ (Contains before x × (P x → ⊥))
 
 hides_none : {P : List ℕ → Type 0} {a : List (List ℕ)} → ((x : List ℕ) → P x → ⊥) → Hides P a a
 hides_none none = record { each = λ x. (λ c. (c, none x), λ h. h.0) }
@@ -37,15 +34,7 @@ hides_then p q left right back = record {
 hides_along : {P Q : List ℕ → Type 0} {a b : List (List ℕ)} → ((x : List ℕ) → P x → Q x) → ((x : List ℕ) → Q x → P x) → Hides P a b → Hides Q a b
 hides_along f g p = record { each = λ x. (λ h. let n = (p.each x).0 h in (n.0, λ r. n.1 (g x r)), λ h. (p.each x).1 (h.0, λ r. h.1 (f x r))) }
 
--- names are the same or not
-same_or : (a b : List ℕ) → (a ≡ b) ⊎ (a ≡ b → ⊥)
-same_or a b =
-    elim (bytes_eq a b) as (λ v. bytes_eq a b ≡ v → (a ≡ b) ⊎ (a ≡ b → ⊥)) [
-      | true ↦ (λ q. inl ((bytes_eq-Decides a b).0 q))
-      | false ↦ (λ q. inr (λ e. let bad : true ≡ false = sym ((bytes_eq-Decides a b).1 e) ∙ q in absurd (cc)))
-    ] refl
-
-without_to : (name : List ℕ) (xs : List (List ℕ)) (x : List ℕ) → Contains (without name xs) x → Contains xs x × (name ≡ x → ⊥)
+pub without_to : (name : List ℕ) (xs : List (List ℕ)) (x : List ℕ) → Contains (without name xs) x → Contains xs x × (name ≡ x → ⊥)
 without_to name [] x c = absurd (none_contained x c)
 without_to name (y ∷ ys) x c =
     elim (bytes_eq y name) as (λ v. bytes_eq y name ≡ v → Contains (cond v (without name ys) (y ∷ without name ys)) x → Contains (y ∷ ys) x × (name ≡ x → ⊥)) [
@@ -56,7 +45,7 @@ without_to name (y ∷ ys) x c =
       ])
     ] refl c
 
-without_from : (name : List ℕ) (xs : List (List ℕ)) (x : List ℕ) → Contains xs x → (name ≡ x → ⊥) → Contains (without name xs) x
+pub without_from : (name : List ℕ) (xs : List (List ℕ)) (x : List ℕ) → Contains xs x → (name ≡ x → ⊥) → Contains (without name xs) x
 without_from name [] x c n = c
 without_from name (y ∷ ys) x c n =
     elim (bytes_eq y name) as (λ v. bytes_eq y name ≡ v → Contains (cond v (without name ys) (y ∷ without name ys)) x) [

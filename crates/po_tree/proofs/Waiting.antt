@@ -7,7 +7,8 @@ use Rattle.po_tree.specs.declared.expression.Specifier.TheVariants as sp
 use Rattle.po_tree.specs.declared.expression.Member.{Member}
 use Rattle.po_tree.specs.declared.names.Declared.{Declared}
 use Rattle.po_tree.specs.Scope.{Enumerates, Tags, Somewhere}
-use Rattle.po_tree.specs.Gathering.{Adds, AddsSpec, AddsSpecs, Leaves, Gathers, Opens, in_members, count_in, count_all}
+use Rattle.po_tree.specs.NameSets.{Adds}
+use Rattle.po_tree.specs.Gathering.{AddsSpec, AddsSpecs, Leaves, Gathers, Opens, in_members, count_in, count_all}
 use Rattle.po_tree.proofs.Sets.{first_or_later, is_first, none_contained}
 use Rattle.po_tree.proofs.Gathered.{enumerates_body, body_enumerates, tags_body, body_tags, own_tag}
 use Rattle.po_tree.proofs.Counts.{count_in-body, count_all-append}

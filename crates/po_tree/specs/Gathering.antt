@@ -5,15 +5,8 @@ use Rattle.po_tree.specs.declared.expression.Exp.TheOpen.{Specifier-F, Member-F}
 use Rattle.po_tree.specs.declared.expression.Specifier.TheVariants as sp
 use Rattle.po_tree.specs.declared.expression.Member.{Member, out-Member}
 use Rattle.po_tree.specs.declared.names.Declared.{Declared}
+use Rattle.po_tree.specs.NameSets.{Adds}
 use Rattle.po_tree.specs.Scope.{Enumerates, Tags, Somewhere}
-
--- the names that are such are added, and nothing else
-pub record Adds (P : List ℕ → Type 0) (before behind : List (List ℕ)) : Type 0 where
-  pub each : (x : List ℕ) → Contains behind x ↔ (Contains before x ⊎ P x)
-
--- the names that are in neither of two others
-pub record Keeps (set one other kept : List (List ℕ)) : Type 0 where
-  pub each : (x : List ℕ) → Contains kept x ↔ (Contains set x × (Contains one x → ⊥) × (Contains other x → ⊥))
 
 abbrev pub IsTypedefWord : Specifier → Type 0
 IsTypedefWord spec = spec ≡ sp.Word (codes "typedef")

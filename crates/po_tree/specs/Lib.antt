@@ -8,6 +8,8 @@ pub mod Expressions
 pub mod Declarations
 pub mod Statements
 pub mod Order
+pub mod NameSets
+pub mod InForce
 pub mod Scope
 pub mod Gathering
 pub mod Layers

@@ -15,7 +15,7 @@ mod statement;
 pub use declaration::{Decl, Init, InitParts};
 pub use expression::{Declarator, Exp, Member, Param, Specifier, Suffix, TypeName};
 pub use function::FunTree;
-pub use laws::names_behind;
+pub use laws::{names_behind, names_count_as_a_set};
 pub use names::Names;
 pub use operator::{Infix, Postfix, Prefix, Selector};
 pub use statement::{First, Stmt};

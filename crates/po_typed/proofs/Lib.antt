@@ -9,3 +9,5 @@ pub mod OneSpecifier
 pub mod OneDeclaration
 pub mod OneStatement
 pub mod Examples
+pub mod Founded
+pub mod KeepsFounded

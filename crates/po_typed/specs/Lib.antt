@@ -9,3 +9,4 @@ pub mod Declarations
 pub mod Statements
 pub mod Environments
 pub mod Laws
+pub mod Founded

@@ -1,3 +1,4 @@
+ghost use Rattle.po_typed.specs.Founded.{DeclarationsKeepFounded, DefinitionsKeepFounded, FirstIsFounded, ShownIsWellFounded};
 ghost use Rattle.po_typed.specs.Laws.{OneAssignment, OneDefinition, OneFile, OneInitialising, OneNamedType, OneOperand, OnePassing, OneRun, OneSpecified, OneTyping, OneValue};
 
 use po_types::{format_is_one, layout_is_one};
@@ -82,3 +83,24 @@ pub fn definition_has_one_typing()
     format_is_one();
     layout_is_one();
 }
+
+/// Declarations keep that types name structs that are there, and that the members of a struct without a tag name only structs that were
+/// declared before its body ended. It does nothing.
+pub fn declarations_keep_founded()
+    ensures { DeclarationsKeepFounded }
+{}
+
+/// So do definitions. It does nothing.
+pub fn definitions_keep_founded()
+    ensures { DefinitionsKeepFounded }
+{}
+
+/// Before the first piece of a file what is in force is founded. It does nothing.
+pub fn first_context_is_founded()
+    ensures { FirstIsFounded }
+{}
+
+/// So each environment that declarations make is well founded, and each of its types can be spelled. It does nothing.
+pub fn shown_environment_is_well_founded()
+    ensures { ShownIsWellFounded }
+{}

@@ -3,7 +3,7 @@
 use crate::lexing::{put_fail, read};
 use crate::spelling::spell;
 use crate::writing::{put_named, put_number};
-use po_base::{Memory, OrdList, Text, Tokens};
+use po_base::{Memory, Text, Tokens};
 use po_exp_read::read_exp;
 use po_tree::Names;
 use std::alloc::Global;
@@ -11,12 +11,9 @@ use std::str;
 
 /// The names in force: `T` is a typedef name.
 fn names(alloc: Global) -> Result<Names, Memory> {
-    let mut typedefs = OrdList::new(alloc);
-    let _ = typedefs.insert(Text::new(alloc, b"T")?)?;
-    Ok(Names {
-        typedefs,
-        tags: OrdList::new(alloc),
-    })
+    let mut names = Names::new(alloc);
+    names.declare_type(&Text::new(alloc, b"T")?)?;
+    Ok(names)
 }
 
 /// Writes where the longest expression ends that begins at a place, and its tree; 0 where none stands there.

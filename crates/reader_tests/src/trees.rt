@@ -125,5 +125,11 @@ pub(crate) fn show_tags(alloc: Global, out: &mut Vec<u8>, depth: u32) -> Result<
         parts: List::new(alloc),
     };
     let names = Names::new(alloc).after(alloc, &declaration)?;
-    put_named(alloc, out, b"tags ", names.tags.len() as u64)
+    let mut tags = 0u64;
+    for level in 0..depth {
+        if names.is_tag(&Text::new(alloc, &level.to_be_bytes())?) {
+            tags = tags.saturating_add(1);
+        }
+    }
+    put_named(alloc, out, b"tags ", tags)
 }

@@ -1,3 +1,4 @@
+use Rattle.po_core.proofs.Judged.{judged}
 use Rattle.po_core.proofs.Orderly.{agrees}
 use Rattle.po_core.proofs.Possible.{all_possible}
 use Rattle.po_core.proofs.laws.legal_lists_are_orderly.Goals as goal
@@ -15,4 +16,5 @@ returns g c = λ es s r.
       hands_once = a.hands_once;
       hands_taken = a.hands_taken;
       taken_in_hand = a.taken_in_hand;
+      supports_known = (judged _ _ law es s r).supported;
     }

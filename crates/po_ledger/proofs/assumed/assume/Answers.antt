@@ -1,9 +1,10 @@
-use Rattle.std.proofs.Common.{◌∙◌, ◌++◌, ◌∷◌, [], ap}
-use Rattle.po_ledger.proofs.Ascending.{assumption_tells}
-use Rattle.po_ledger.proofs.Indexed.{index_push}
+use Rattle.std.proofs.Common.{◌∙◌, inl, inr, refl, subst, sym}
+use Rattle.std.specs.List.{Contains}
+use Rattle.po_ledger.proofs.Assuming.{adds_known}
 use Rattle.po_ledger.proofs.assumed.assume.Goals as goal
 
-pub invariant_of-assumed-in-Ok : goal.invariant_of-assumed-in-Ok
-invariant_of-assumed-in-Ok g c =
-    let tells = assumption_tells _ g.R.Pred.Ord.cmp g.met.R.Pred.Ord.total g.met.R.Pred.Ord.matches_eq (g.met.R.Rulebook.lawful c.args.book.now).equal_are_same (c.args.f, c.args.q) in
-    index_push c.assumed.inside.pairs.items c.push_reserved.new.self.items _ _ (c.args.f, c.args.q) _ _ tells (c.push_reserved.ensures.items ∙ ap (λ z. z ++ (c.args.f, c.args.q) ∷ []) c.in_ok-reserve.ensures.items) c.in-Ok.ensures.updates.0 c.assumed.invariant
+pub returns-then-is_assumed-clause-marks : goal.returns-then-is_assumed-clause-marks
+returns-then-is_assumed-clause-marks g c = adds_known _ _ (c.requires.supported (c.is_assumed.ensures.0 c.if-is_assumed.true))
+
+pub add_supports-requires-clause-there : goal.add_supports-requires-clause-there
+add_supports-requires-clause-there g c = λ h n k. c.requires.callers h n (subst (λ z. Contains z (h, n)) (c.as_slice.ensures ∙ c.call_sites_at-sites.ensures) k)

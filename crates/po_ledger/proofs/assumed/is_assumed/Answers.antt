@@ -1,7 +1,5 @@
-use Rattle.std.proofs.Common.{ap}
-use Rattle.po_ledger.specs.Indexed.{Assumptions}
-use Rattle.po_ledger.proofs.Indexed.{index_tells}
+use Rattle.po_ledger.proofs.Assuming.{any_tells, pair_tells}
 use Rattle.po_ledger.proofs.assumed.is_assumed.Goals as goal
 
 pub returns : goal.returns
-returns g c = index_tells c.assumed.inside.pairs.items c.args.assumed.now.items _ (c.args.f, c.args.q) c.contains_key.result (ap (λ (z : Assumptions _). z.items) c.assumed.view_is) c.assumed.invariant c.contains_key.ensures
+returns g c = any_tells _ (c.args.f, c.args.q) (pair_tells g.R.Pred.PartialEq.eq (g.met.R.Rulebook.lawful c.args.book.now).equal_are_same (c.args.f, c.args.q)) _ c.contains.result c.contains.ensures

@@ -1,4 +1,4 @@
-use Rattle.po_ledger.proofs.Hands.{post_before}
+use Rattle.po_ledger.proofs.WholeHand.{post_before}
 use Rattle.po_ledger.proofs.settling.post_before.Goals as goal
 
 pub returns-in-Delegated-clause-ok : goal.returns-in-Delegated-clause-ok

@@ -1,7 +1,7 @@
 use Rattle.std.proofs.Common.{arith, sym, subst}
 use Rattle.po_core.specs.Core.{KeepsHands}
 use Rattle.po_ledger.specs.View.{LedgerView}
-use Rattle.po_ledger.proofs.Hands.{due_next, front_more, length_front}
+use Rattle.po_ledger.proofs.WholeHand.{due_next, front_more, length_front}
 use Rattle.po_ledger.proofs.settling.settle_hand.Goals as goal
 
 pub settle_item-requires-clause-due : goal.settle_item-requires-clause-due

@@ -1,4 +1,4 @@
-use Rattle.po_ledger.proofs.Hands.{item_done}
+use Rattle.po_ledger.proofs.WholeHand.{item_done}
 use Rattle.po_ledger.proofs.settling.settle_item.Goals as goal
 
 pub returns-clause-ok : goal.returns-clause-ok

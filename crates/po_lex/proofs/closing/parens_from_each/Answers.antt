@@ -35,8 +35,8 @@ loop-behind-preserved c =
           closings_more tokens behind at t (reverse c.loop-behind.closings) c.loop-behind-test.true refl c.index-tokens-at.is c.loop-behind.invariant.closings;
     }
 
-pub returns-clause-told : goal.returns-clause-told
-returns-clause-told c =
+pub returns-clause-directive_effect_at : goal.returns-clause-directive_effect_at
+returns-clause-directive_effect_at c =
     let tokens : List Token = c.args.tokens.now in
     let over : length tokens - c.loop-behind.behind ≡ 0 = omega (arith, c.loop-behind-test.false) in
     ap (λ n. drop n c.loop-behind.widths) (sym over) ∙ c.loop-behind.invariant.widths ∙ ap (λ n. parens_from_each (drop n tokens)) over

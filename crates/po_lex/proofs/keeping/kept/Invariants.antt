@@ -6,8 +6,8 @@ use Rattle.po_lex.proofs.keeping.kept.Given as goal
 abbrev pub invariant-loop-at : goal.invariant-loop-at
 invariant-loop-at l = record {
   within : l.at ≤ length l.read;
-  depth : l.mood.depth ≤ l.at;
-  keeps : (kept : List Token) → Keeps l.mood (drop l.at l.read) kept → Keeps at_start l.read (l.list ++ kept);
+  depth : l.context.depth ≤ l.at;
+  keeps : (kept : List Token) → Keeps l.context (drop l.at l.read) kept → Keeps at_start l.read (l.list ++ kept);
 }
 
 abbrev pub decreases-loop-at : goal.decreases-loop-at

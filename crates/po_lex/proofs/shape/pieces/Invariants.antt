@@ -7,5 +7,5 @@ abbrev pub invariant-loop-at : goal.invariant-loop-at
 invariant-loop-at l = record {
   within : l.from ≤ l.at;
   divided : Divided 0 l.pieces l.list l.from (drop l.from l.list);
-  goes_to : goes (Some outset) (take (l.at - l.from) (drop l.from l.list)) ≡ Some (state_of l.walk);
+  goes_to : goes (Some outset) (take (l.at - l.from) (drop l.from l.list)) ≡ Some (state_of l.nesting);
 }

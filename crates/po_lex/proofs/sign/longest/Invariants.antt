@@ -1,6 +1,6 @@
 use Rattle.std.proofs.Common.{◌≡◌, ◌≤◌, length, map, drop}
 use Rattle.std.specs.Prelude.{max}
-use Rattle.po_lex.specs.Leads.{longest}
+use Rattle.po_lex.specs.PartKinds.{longest}
 use Rattle.po_lex.proofs.sign.longest.Given as goal
 
 abbrev pub invariant-loop-text : goal.invariant-loop-text

@@ -1,6 +1,6 @@
 use Rattle.std.proofs.Common.{◌≡◌, ◌<◌, ◌∷◌, ◌∙◌, length, get_or, sym, ap, drop, arith}
 use Rattle.std.proofs.lemmas.List.{drop_more}
-use Rattle.po_lex.specs.Leads.{longest, signs}
+use Rattle.po_lex.specs.PartKinds.{longest, signs}
 use Rattle.po_lex.proofs.sign.sign_length.Goals as goal
 
 pub returns-then-is_lone-clause-value : goal.returns-then-is_lone-clause-value

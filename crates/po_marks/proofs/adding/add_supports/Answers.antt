@@ -1,17 +1,14 @@
-use Rattle.std.proofs.Common.{refl}
-use Rattle.po_marks.proofs.Adds.{adds_none, adds_more}
-use Rattle.po_marks.proofs.Waits.{backs_both, backs_same, supports_there}
+use Rattle.std.proofs.Common.{◌∙◌, length, sym, ap, subst}
+use Rattle.po_marks.specs.Waiting.{AreWaiting, Marking}
+use Rattle.po_marks.proofs.Undone.{in_turn_holds}
+use Rattle.po_marks.proofs.Waits.{holds_same}
 use Rattle.po_marks.proofs.adding.add_supports.Goals as goal
 
-pub loop-site-init : goal.loop-site-init
-loop-site-init g c = (adds_none _, c.requires.waiting, backs_same _ _ refl)
+pub returns-in-Ok-clause-holds : goal.returns-in-Ok-clause-holds
+returns-in-Ok-clause-holds g c = in_turn_holds (g.R.Rulebook.meaning c.args.book.now) c.add_each_support.ensures.turn.0 _ _ c.add_each_support.ensures.turn.1
 
-pub add-requires-clause-there : goal.add-requires-clause-there
-add-requires-clause-there g c = supports_there _ c.args.sites.now c.loop-site.site-index _ c.loop-site-test.true c.support_at.result c.args.q c.support_at.ensures c.requires.there
+pub returns-in-Err-clause-waiting : goal.returns-in-Err-clause-waiting
+returns-in-Err-clause-waiting g c = subst (λ (z : Marking _ _). AreWaiting (g.R.Rulebook.meaning c.args.book.now) z) (sym (c.forget.ensures c.args.marks.now c.add_each_support.ensures.turn.0 c.add_each_support.ensures.turn.1 (ap (λ z. length z.items) (sym c.marks.view_is) ∙ sym c.len-known.ensures.len))) c.requires.waiting
 
-pub loop-site-preserved : goal.loop-site-preserved
-loop-site-preserved g c = (
-  adds_more _ c.args.sites.now c.loop-site.site-index _ _ c.loop-site.marks.items c.add.new.marks.items c.support_at.result c.loop-site-test.true c.loop-site.invariant.0 c.in_ok-add.ensures.ok c.support_at.ensures,
-  c.in_ok-add.ensures.waiting,
-  backs_both _ _ _ c.loop-site.invariant.2 c.in_ok-add.ensures.backs,
-)
+pub returns-in-Err-clause-holds : goal.returns-in-Err-clause-holds
+returns-in-Err-clause-holds g c = holds_same _ _ (ap (λ (z : Marking _ _). z.queues) (c.forget.ensures c.args.marks.now c.add_each_support.ensures.turn.0 c.add_each_support.ensures.turn.1 (ap (λ z. length z.items) (sym c.marks.view_is) ∙ sym c.len-known.ensures.len)))

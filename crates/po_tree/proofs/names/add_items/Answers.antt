@@ -9,7 +9,7 @@ loop-item-init c = adds_none _ (λ x h. none_contained x h)
 pub loop-item-preserved : goal.loop-item-preserved
 loop-item-preserved c =
     rw (map_more (λ item. item.0) c.args.items.now c.loop-item.item-index c.item-item.result c.loop-item-test.true, ← c.item-item.is)
-    (adds_name _ _ c.loop-item.invariant c.in_ok-add.ensures)
+    (adds_name _ _ c.loop-item.invariant c.in_ok-add.ensures.adds)
 
 pub returns : goal.returns
 returns c = rw (sym (take_all c.loop-item.item-index c.args.items.now c.loop-item-test.false)) c.loop-item.invariant

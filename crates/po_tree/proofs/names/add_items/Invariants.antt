@@ -1,6 +1,6 @@
 use Rattle.std.proofs.Common.{map, take}
 use Rattle.std.specs.Prelude.{Contains}
-use Rattle.po_tree.specs.Gathering.{Adds}
+use Rattle.po_tree.specs.NameSets.{Adds}
 use Rattle.po_tree.proofs.names.add_items.Given as goal
 
 abbrev pub invariant-loop-item : goal.invariant-loop-item

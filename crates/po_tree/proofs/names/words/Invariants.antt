@@ -1,6 +1,6 @@
 use Rattle.std.proofs.Common.{[], take}
 use Rattle.po_tree.specs.Scope.{HasWord}
-use Rattle.po_tree.specs.Gathering.{Adds}
+use Rattle.po_tree.specs.NameSets.{Adds}
 use Rattle.po_tree.proofs.names.words.Given as goal
 
 abbrev pub invariant-loop-part : goal.invariant-loop-part

@@ -16,7 +16,7 @@ pub returns-in-Ok-clause-journal : goal.returns-in-Ok-clause-journal
 returns-in-Ok-clause-journal g c = extends_twice _ _ _ c.in-Ok.ensures.journal (does_extends g.J.Naming.book _ _ _ c.give.ensures.does)
 
 pub returns-in-Err-clause-err : goal.returns-in-Err-clause-err
-returns-in-Err-clause-err g c = freed g.J.Naming.book c.settle_ticket.new.ledger.state c.put_back.new.self.state c.settle_ticket.new.t c.file.result c.in-Err.ensures.holds c.file.ensures c.put_back.ensures.steps.effect.0
+returns-in-Err-clause-err g c = freed g.J.Naming.book c.settle_ticket.new.ledger.state c.put_back.new.self.state c.settle_ticket.new.t c.file.result c.in-Err.ensures.holds c.file.ensures c.put_back.ensures.does.steps.effect.0
 
 pub returns-in-Err-clause-journal : goal.returns-in-Err-clause-journal
-returns-in-Err-clause-journal g c = extends_twice _ _ _ c.in-Err.ensures.journal (does_extends g.J.Naming.book _ _ _ c.put_back.ensures)
+returns-in-Err-clause-journal g c = extends_twice _ _ _ c.in-Err.ensures.journal (does_extends g.J.Naming.book _ _ _ c.put_back.ensures.does)

@@ -11,7 +11,7 @@ invariant_of-self-2 g c =
     let b = g.J.Naming.book in
     let asked = Ask c.args.worker c.args.done in
     let grows = c.append.ensures.items ∙ ap (λ z. z ++ asked ∷ []) c.in_ok-make_room.ensures.items in
-    (ask_kept b _ _ _ _ c.self.invariant.0 c.args.worker c.args.done (ask_does b _ _ _ _ c.self.invariant.0 c.args.worker c.args.done (legal_seen b asked _ _ c.self.view_is c.requires) refl grows) refl (omega (arith, c.append.ensures.room, c.in_ok-make_room.ensures.ok)), c.self.invariant.1)
+    (ask_kept b _ _ _ _ c.self.invariant.0 c.args.worker c.args.done (ask_does b _ _ _ _ c.self.invariant.0 c.args.worker c.args.done (legal_seen b asked _ _ c.self.view_is c.requires) refl grows) refl (omega (arith, c.append.ensures.room, c.in_ok-make_room.ensures.ok)), c.self.invariant.1, c.self.invariant.2, c.self.invariant.3)
 
 pub returns-clause-ok : goal.returns-clause-ok
 returns-clause-ok g c =

@@ -1,6 +1,6 @@
 use Rattle.std.proofs.Common.{subst}
 use Rattle.po_core.specs.Core.{CoreState, IsInHand, IsKnown}
-use Rattle.po_ledger.proofs.Hands.{held_there, hands_known}
+use Rattle.po_ledger.proofs.WholeHand.{held_there, hands_known}
 use Rattle.po_ledger.proofs.ledger.Ledger.keeps_its_hands.Goals as goal
 
 pub returns-clause-held_there : goal.returns-clause-held_there

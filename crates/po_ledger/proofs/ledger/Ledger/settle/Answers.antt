@@ -19,6 +19,8 @@ pub invariant_of-self : goal.invariant_of-self
 invariant_of-self g c = (
   settle_keeps _ _ _ _ c.self.invariant.0 c.legal_lists_are_orderly.ensures c.args.t.now _ c.self.view_is c.args.k c.args.v c.requires.can c.item-obl.result.now c.item-obl.ensures _ c.file-file.result c.file-file.ensures c.settle.ensures.marks refl refl c.append.ensures.items c.append.ensures.room,
   queued_same _ _ c.self.invariant.0.same_book _ _ _ c.self.invariant.1 c.settle.ensures.waiting c.settle.ensures.queues,
+  c.self.invariant.2,
+  c.self.invariant.3,
 )
 
 pub returns : goal.returns

@@ -1,14 +1,13 @@
-use Rattle.std.proofs.Common.{inl, inr, refl}
-use Rattle.po_tree.proofs.Behind.{behind}
+use Rattle.std.proofs.Common.{[], ap, ◌∙◌, subst}
+use Rattle.std.specs.Prelude.{Contains}
+use Rattle.po_tree.specs.NameSets.{Adds}
+use Rattle.po_tree.specs.InForce.{InForce, outer_of}
+use Rattle.po_tree.proofs.Behind.{behind_copy}
 use Rattle.po_tree.proofs.names.Names.after.Goals as goal
-use Rattle.po_tree.proofs.names.Names.after.Goals.{then-is_typedef+in_ok-add_all, else-is_typedef}
 
 pub returns : goal.returns
 returns c =
-    behind c.args.self.now c.args.d.now c.gather.new.found c.in_ok-words.words c.in_ok-typedefs.typedefs
-    (rw (c.new.ensures, c.new-2.ensures, c.as_slice.ensures) at c.in_ok-gather.ensures) (rw c.as_slice-2.ensures at c.in_ok-words.ensures) c.in_ok-typedefs.ensures _ _
-    (elim c.if-is_typedef.branch [
-      | then-is_typedef+in_ok-add_all w ↦ inl (rw (← c.as_slice-3.ensures) ((w.if-is_typedef.ensures).0 refl), rw w.typedefs-is w.in_ok-add_all.ensures)
-      | else-is_typedef w ↦ inr (λ h. absurd {A = ⊥} (cc ((w.if-is_typedef.ensures).1 (rw c.as_slice-3.ensures h))), w.typedefs-is)
-    ])
-    c.in_ok-add_all-2.ensures
+    let h = c.in_ok-declare.ensures in
+    let types = subst (λ (v : InForce). Adds (Contains v.typedefs) [] c.in_ok-copied.field-0) c.self.view_is c.in_ok-copied.ensures.same in
+    let tags = subst (λ (v : InForce). Adds (Contains v.tags) [] c.in_ok-copied-2.field-0) c.self.view_is c.in_ok-copied-2.ensures.same in
+    (behind_copy _ _ _ _ types tags h.0, h.1 ∙ ap (λ v. outer_of v c.in_ok-copied.field-0 c.in_ok-copied-2.field-0) c.new.ensures)

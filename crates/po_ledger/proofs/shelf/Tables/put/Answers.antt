@@ -1,6 +1,0 @@
-use Rattle.std.proofs.Common.{◌∙◌}
-use Rattle.po_ledger.proofs.Tables.{pushed}
-use Rattle.po_ledger.proofs.shelf.Tables.put.Goals as goal
-
-pub returns-in-Ok-clause-ok : goal.returns-in-Ok-clause-ok
-returns-in-Ok-clause-ok g c = c.in-Ok.ensures.entries ∙ pushed c.self.inside.made.entries c.args.self.now c.args.f c.args.table c.self.view_is c.requires

@@ -1,9 +1,0 @@
-use Rattle.std.proofs.Common.{◌≡◌, ◌≤◌, ◌+◌, drop}
-use Rattle.po_lex.specs.Keeping.{advance}
-use Rattle.po_lex.proofs.keeping.Mood.advance.Given as goal
-
-abbrev pub invariant-loop-token : goal.invariant-loop-token
-invariant-loop-token l = record {
-  value : advance l.mood (drop l.token-index l.tokens) ≡ advance l.fn.self l.tokens;
-  few : l.mood.depth ≤ l.fn.self.depth + l.token-index;
-}
