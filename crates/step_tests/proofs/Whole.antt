@@ -1,0 +1,187 @@
+-- A project of bare functions is whole.
+use Rattle.std.specs.Prelude.{ℕ, ◌+◌, ◌≡◌, ◌≤◌, ◌<◌, ◌↔◌, [], ◌∷◌, List, All, Bool, true, false, ◌||◌, IsTrue, map, take, codes, Contains, Option, Some, None, MatchOption, length, slice_get}
+use Rattle.std.specs.List.{list_any}
+use Rattle.std.proofs.Common.{refl, sym, ap, ◌∙◌, subst, arith}
+use Rattle.std.proofs.lemmas.List.Elements.{All-nil, All-cons}
+use Rattle.po_lists.proofs.Places.{all_at, all_head, all_tail, item_at}
+use Rattle.po_base.specs.declared.numbers.FunNo.{FunNo}
+use Rattle.po_base.specs.declared.numbers.NodeNo.{NodeNo}
+use Rattle.po_base.specs.declared.numbers.RegNo.{RegNo}
+use Rattle.po_base.specs.declared.numbers.SlotNo.{SlotNo}
+use Rattle.po_base.specs.declared.operand.Opnd.{Opnd}
+use Rattle.po_base.specs.declared.operand.Opnd.TheVariants as operand
+use Rattle.po_ir.specs.declared.graph.Graph.{Graph}
+use Rattle.po_ir.specs.declared.graph.Node.{Node}
+use Rattle.po_ir.specs.declared.graph.Reg.{Reg as Register}
+use Rattle.po_ir.specs.declared.graph.Slot.{Slot}
+use Rattle.po_ir.specs.declared.instr.Callee.{Callee}
+use Rattle.po_ir.specs.declared.instr.Callee.TheVariants.{Fun, Extern as Undefined}
+use Rattle.po_ir.specs.declared.instr.Instr.{Instr}
+use Rattle.po_ir.specs.declared.instr.Instr.TheVariants.{Const, Copy, Bin, Un, Conv, AddrSlot, AddrGlobal, AddrStr, PtrAdd, PtrDiff, Load, Store, CopyBytes, Fill, Enter, Leave, Call, Lib, If, Jump, Return, Never}
+use Rattle.po_ir.specs.declared.instr.Reason.{Reason}
+use Rattle.po_ir.specs.declared.instr.Reason.TheVariants.{End, Unread}
+use Rattle.po_ir.specs.declared.instr.Ty.{Ty}
+use Rattle.po_ir.specs.declared.project.Effects.{Effects}
+use Rattle.po_ir.specs.declared.project.Function.{Function}
+use Rattle.po_ir.specs.declared.project.Global.{Global}
+use Rattle.po_ir.specs.declared.project.Project.{Project}
+use Rattle.po_ir.specs.Instructions.{operands, used}
+use Rattle.po_ir.specs.IntTypes.{HasTypesOfTarget, IsTypeOfTarget, types_in}
+use Rattle.po_ir.specs.Paths.{NodeAt}
+use Rattle.po_ir.specs.Reaching.{AreEffects, LibraryEffects, Reaches, reaches_itself, reaches_through, does, frees_here, writes_here}
+use Rattle.po_ir.specs.Valid.{NamesParts}
+use Rattle.po_ir.specs.Whole.{CallFits, CalleesFit, FunctionFits, Gives, InstructionFits, IsTemporary, IsUnread, IsVariable, IsWhole, Passes, ReturnFits, greatest_size, library_effects, parameter_types, type_of}
+use Rattle.po_ir.specs.Types.{IsResultType}
+use Rattle.step_tests.specs.Bare.{CallsSome, IsBare, IsBareFunction, IsBareProject, none}
+
+no_items : {X : Type 0} (xs : List X) (k : ℕ) (x : X) → xs ≡ [] → slice_get xs k ≡ Some x → ⊥
+no_items xs k x empty here = let at : slice_get [] k ≡ Some x = ap (λ ys. slice_get ys k) (sym empty) ∙ here in absurd (cc)
+
+all_as : {X : Type 0} (P Q : X → Type 0) (xs : List X) → ((x : X) → P x → Q x) → All P xs → All Q xs
+all_as P Q [] each all = All-nil Q
+all_as P Q (x ∷ xs) each all = All-cons Q x xs (each x (all_head P x xs all)) (all_as P Q xs each (all_tail P x xs all))
+
+all_none : {X : Type 0} (P : X → Type 0) (xs : List X) → xs ≡ [] → All P xs
+all_none P xs empty = subst (All P) (sym empty) (All-nil P)
+
+-- ---- instructions
+
+module _ (P : Instr → Type 0) (functions nodes : ℕ) (jump : (next : NodeNo) → next.0 < nodes → P (Jump next)) (call : (callee : Callee) → CallsSome functions callee → P (Call None callee [] [])) (back : P (Return None)) (never : P (Never End)) where
+  -- what holds of the four kinds holds of each bare instruction
+  pub each_kind : (i : Instr) → IsBare functions nodes i → P i
+  each_kind (Jump next) is = jump next is
+  each_kind (Call to callee args strings) is =
+      subst (λ (t : Option RegNo). P (Call t callee args strings)) (sym is.0) (subst (λ (xs : List Opnd). P (Call None callee xs strings)) (sym is.2) (subst (λ (ns : List ℕ). P (Call None callee [] ns)) (sym is.3) (call callee is.1)))
+  each_kind (Return value) is = subst (λ (v : Option Opnd). P (Return v)) (sym is) back
+  each_kind (Never reason) is = subst (λ (r : Reason). P (Never r)) (sym is) never
+  each_kind (Const to value) is = absurd is
+  each_kind (Copy to from) is = absurd is
+  each_kind (Bin to o ty a b) is = absurd is
+  each_kind (Un to o t a) is = absurd is
+  each_kind (Conv to from ty align) is = absurd is
+  each_kind (AddrSlot to slot) is = absurd is
+  each_kind (AddrGlobal to global) is = absurd is
+  each_kind (AddrStr to text) is = absurd is
+  each_kind (PtrAdd to base index factor) is = absurd is
+  each_kind (PtrDiff to a b size) is = absurd is
+  each_kind (Load to at access) is = absurd is
+  each_kind (Store at value access) is = absurd is
+  each_kind (CopyBytes to from size align) is = absurd is
+  each_kind (Fill slot size) is = absurd is
+  each_kind (Enter what) is = absurd is
+  each_kind (Leave slot) is = absurd is
+  each_kind (Lib to lib args strings) is = absurd is
+  each_kind (If o ty a b yes_side no_side) is = absurd is
+
+names : (functions : ℕ) (g : Graph) (i : Instr) → IsBare functions (length g.nodes) i → NamesParts g i
+names functions g = each_kind (NamesParts g) functions (length g.nodes) (λ next less. ((tt, All-nil _, tt), (tt, tt), less)) (λ callee is. ((tt, All-nil _, tt), (tt, tt), tt)) ((tt, All-nil _, tt), (tt, tt), tt) ((tt, All-nil _, tt), (tt, tt), tt)
+
+typed : (functions nodes : ℕ) (i : Instr) → IsBare functions nodes i → All IsTypeOfTarget (types_in i)
+typed functions nodes = each_kind (λ i. All IsTypeOfTarget (types_in i)) functions nodes (λ next less. All-nil IsTypeOfTarget) (λ callee is. All-nil IsTypeOfTarget) (All-nil IsTypeOfTarget) (All-nil IsTypeOfTarget)
+
+nothing : (s : SlotNo) → None ≡ Some s → ⊥
+nothing s same = cc
+
+pub uses_none : (s : SlotNo) (functions nodes : ℕ) (i : Instr) → IsBare functions nodes i → used i ≡ Some s → ⊥
+uses_none s functions nodes = each_kind (λ i. used i ≡ Some s → ⊥) functions nodes (λ next less. nothing s) (λ callee is. nothing s) (nothing s) (nothing s)
+
+tells_none : (functions nodes : ℕ) (test : Instr → Bool) → ((next : NodeNo) → test (Jump next) ≡ false) → ((g : FunNo) → test (Call None (Fun g) [] []) ≡ false) → test (Return None) ≡ false → test (Never End) ≡ false →
+    (i : Instr) → IsBare functions nodes i → test i ≡ false
+tells_none functions nodes test jump call back never = each_kind (λ i. test i ≡ false) functions nodes (λ next less. jump next) by back never
+  where
+    by : (callee : Callee) → CallsSome functions callee → test (Call None callee [] []) ≡ false
+    by (Fun g) is = call g
+    by (Undefined name) is = absurd is
+
+-- ---- functions
+
+pub instruction_at : (functions : ℕ) (f : Function) (n : ℕ) (i : Instr) → IsBareFunction functions f → NodeAt f.graph n i → IsBare functions (length f.graph.nodes) i
+instruction_at functions f n i bare at = subst (IsBare functions (length f.graph.nodes)) at.2 (all_at (λ (x : Node). IsBare functions (length f.graph.nodes) x.instr) f.graph.nodes n at.0 bare.instructions at.1)
+
+no_types : (functions : ℕ) (f : Function) → IsBareFunction functions f → parameter_types f ≡ []
+no_types functions f bare = ap (λ (k : ℕ). map type_of (take k f.graph.regs)) bare.params
+
+module _ (p : Project) (whole : IsBareProject p) where
+  count : ℕ
+  count = length p.functions
+
+  callee_fits : (g : FunNo) → g.0 < length p.functions → (f : Function) → MatchOption (slice_get p.functions g.0) ⊥ (λ (callee : Function). (IsUnread callee → ⊥) → CallFits f.graph None [] callee)
+  callee_fits g inside f =
+      let callee = item_at p.functions g.0 inside in
+      let bare = all_at (IsBareFunction (length p.functions)) p.functions g.0 callee.0 whole.functions callee.1 in
+      subst (λ (o : Option Function). MatchOption o ⊥ (λ (c : Function). (IsUnread c → ⊥) → CallFits f.graph None [] c)) (sym callee.1)
+      (λ read. record { passes = subst (λ (ts : List Ty). Passes f.graph false ts []) (sym (no_types (length p.functions) callee.0 bare)) tt; result = tt })
+
+  fits : (f : Function) → IsBareFunction (length p.functions) f → (i : Instr) → IsBare (length p.functions) (length f.graph.nodes) i → InstructionFits [] p f i
+  fits f bare = each_kind (InstructionFits [] p f) (length p.functions) (length f.graph.nodes)
+      (λ next less. record { operands_lie = tt; compares_pointers = tt; result_fits = tt; numbers_fit = tt; callees_fit = tt; return_fits = tt; opens_variables = tt })
+      (λ callee is. record { operands_lie = tt; compares_pointers = tt; result_fits = tt; numbers_fit = tt; callees_fit = by callee is; return_fits = tt; opens_variables = tt })
+      (record { operands_lie = tt; compares_pointers = tt; result_fits = tt; numbers_fit = tt; callees_fit = tt; return_fits = bare.void; opens_variables = tt })
+      (record { operands_lie = tt; compares_pointers = tt; result_fits = tt; numbers_fit = tt; callees_fit = tt; return_fits = tt; opens_variables = tt })
+    where
+      by : (callee : Callee) → CallsSome (length p.functions) callee → CalleesFit [] p f.graph (Call None callee [] [])
+      by (Fun g) is = callee_fits g is f
+      by (Undefined name) is = absurd is
+
+  function_fits : (f : Function) → IsBareFunction (length p.functions) f → FunctionFits [] p f
+  function_fits f bare = record {
+    valid = (all_as (λ (n : Node). IsBare (length p.functions) (length f.graph.nodes) n.instr) (λ (n : Node). NamesParts f.graph n.instr) f.graph.nodes (λ n. names (length p.functions) f.graph n.instr) bare.instructions, bare.last);
+    parameters = record { there = let none_passed = bare.params in omega (arith, none_passed); first = λ r register here. absurd (no_items f.graph.regs r register bare.regs here) };
+    types = record {
+      registers = all_none (λ (r : Register). IsTypeOfTarget r.ty) f.graph.regs bare.regs;
+      instructions = all_as (λ (n : Node). IsBare (length p.functions) (length f.graph.nodes) n.instr) (λ (n : Node). All IsTypeOfTarget (types_in n.instr)) f.graph.nodes (λ n. typed (length p.functions) (length f.graph.nodes) n.instr) bare.instructions;
+    };
+    instructions = λ n i at. fits f bare i (instruction_at (length p.functions) f n i bare at);
+    written_before_read = λ back n i r path at reads temporary. absurd (no_temporary f bare r temporary);
+    entered_before_used = λ back n i s path at uses. absurd (uses_none s (length p.functions) (length f.graph.nodes) i (instruction_at (length p.functions) f n i bare at) uses);
+    slots = all_none (λ (s : Slot). (s.size ≤ greatest_size) × (1 ≤ s.align)) f.graph.slots bare.slots;
+    unread_has_nothing = λ unread. (bare.regs, bare.slots);
+  }
+    where
+      no_temporary : (f : Function) → IsBareFunction (length p.functions) f → (r : RegNo) → IsTemporary f.graph r → ⊥
+      no_temporary f bare r temporary = subst (λ (regs : List Register). MatchOption (slice_get regs r.0) ⊥ (λ (x : Register). (x.param ≡ false) × (x.name ≡ None))) bare.regs temporary
+
+  -- ---- effects
+
+  any_none : (test : Instr → Bool) (nodes : List Node) (n : ℕ) → ((i : Instr) → IsBare (length p.functions) n i → test i ≡ false) → All (λ (x : Node). IsBare (length p.functions) n x.instr) nodes → list_any (λ (x : Node). test x.instr) nodes ≡ true → ⊥
+  any_none test [] n tells all is = absurd (cc)
+  any_none test (x ∷ nodes) n tells all is = by (test x.instr) (tells x.instr (all_head (λ (y : Node). IsBare (length p.functions) n y.instr) x nodes all)) is
+    where
+      by : (b : Bool) → b ≡ false → (b || list_any (λ (y : Node). test y.instr) nodes) ≡ true → ⊥
+      by true no_test any = absurd (cc)
+      by false no_test any = any_none test nodes n tells (all_tail (λ (y : Node). IsBare (length p.functions) n y.instr) x nodes all) any
+
+  reaches_none : (test : Instr → Bool) → ((n : ℕ) (i : Instr) → IsBare (length p.functions) n i → test i ≡ false) → (f : ℕ) → Reaches p test f → ⊥
+  reaches_none test tells f (reaches_itself f function there passes) =
+      any_none test function.graph.nodes (length function.graph.nodes) (tells (length function.graph.nodes)) (all_at (IsBareFunction (length p.functions)) p.functions f function whole.functions there).instructions passes
+  reaches_none test tells f (reaches_through f g function n there calls reaches) = reaches_none test tells g reaches
+
+  effects_are : AreEffects (library_effects []) p p.effects
+  effects_are = record { count = whole.count; frees = λ f e here. frees_none f e here; writes = λ f e here. writes_none f e here }
+    where
+      is_none : (f : ℕ) (e : Effects) → slice_get p.effects f ≡ Some e → e ≡ none
+      is_none f e here = all_at (λ (x : Effects). x ≡ none) p.effects f e whole.effects here
+
+      no_true : (b : Bool) → b ≡ false → IsTrue b → ⊥
+      no_true true is_false is = absurd (cc)
+      no_true false is_false is = is
+
+      frees : (f : ℕ) → Reaches p (frees_here (library_effects [])) f → ⊥
+      frees = reaches_none (frees_here (library_effects [])) (λ n. tells_none (length p.functions) n (frees_here (library_effects [])) (λ next. refl) (λ g. refl) refl refl)
+
+      writes : (f : ℕ) → Reaches p (writes_here (library_effects [])) f → ⊥
+      writes = reaches_none (writes_here (library_effects [])) (λ n. tells_none (length p.functions) n (writes_here (library_effects [])) (λ next. refl) (λ g. refl) refl refl)
+
+      frees_none : (f : ℕ) (e : Effects) → slice_get p.effects f ≡ Some e → IsTrue e.frees ↔ Reaches p (frees_here (library_effects [])) f
+      frees_none f e here = (λ is. absurd (no_true e.frees (ap (λ (x : Effects). x.frees) (is_none f e here)) is), λ reaches. absurd (frees f reaches))
+
+      writes_none : (f : ℕ) (e : Effects) → slice_get p.effects f ≡ Some e → IsTrue e.writes ↔ Reaches p (writes_here (library_effects [])) f
+      writes_none f e here = (λ is. absurd (no_true e.writes (ap (λ (x : Effects). x.writes) (is_none f e here)) is), λ reaches. absurd (writes f reaches))
+
+  pub is_whole : IsWhole [] p
+  is_whole = record {
+    functions = all_as (IsBareFunction (length p.functions)) (FunctionFits [] p) p.functions function_fits whole.functions;
+    globals = all_none _ p.globals whole.globals;
+    texts = all_none _ p.texts whole.texts;
+    effects = effects_are;
+  }
