@@ -36,10 +36,10 @@ some_same : (f g : Frame) → Some f ≡ Some g → f ≡ g
 some_same f g same = cc
 
 module _ (p : Project) (whole : IsBareProject p) (n : ℕ) (inside : n < length p.functions) where
-  found : (f : Function) × (slice_get p.functions n ≡ Some f)
+  abbrev found : (f : Function) × (slice_get p.functions n ≡ Some f)
   found = item_at p.functions n inside
 
-  f : Function
+  abbrev f : Function
   f = found.0
 
   bare : IsBareFunction (length p.functions) f

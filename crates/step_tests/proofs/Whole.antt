@@ -34,7 +34,7 @@ use Rattle.po_ir.specs.Whole.{CallFits, CalleesFit, FunctionFits, Gives, Instruc
 use Rattle.po_ir.specs.Types.{IsResultType}
 use Rattle.step_tests.specs.Bare.{CallsSome, IsBare, IsBareFunction, IsBareProject, none}
 
-no_items : {X : Type 0} (xs : List X) (k : ℕ) (x : X) → xs ≡ [] → slice_get xs k ≡ Some x → ⊥
+pub no_items : {X : Type 0} (xs : List X) (k : ℕ) (x : X) → xs ≡ [] → slice_get xs k ≡ Some x → ⊥
 no_items xs k x empty here = let at : slice_get [] k ≡ Some x = ap (λ ys. slice_get ys k) (sym empty) ∙ here in absurd (cc)
 
 all_as : {X : Type 0} (P Q : X → Type 0) (xs : List X) → ((x : X) → P x → Q x) → All P xs → All Q xs
@@ -145,16 +145,16 @@ module _ (p : Project) (whole : IsBareProject p) where
 
   any_none : (test : Instr → Bool) (nodes : List Node) (n : ℕ) → ((i : Instr) → IsBare (length p.functions) n i → test i ≡ false) → All (λ (x : Node). IsBare (length p.functions) n x.instr) nodes → list_any (λ (x : Node). test x.instr) nodes ≡ true → ⊥
   any_none test [] n tells all is = absurd (cc)
-  any_none test (x ∷ nodes) n tells all is = by (test x.instr) (tells x.instr (all_head (λ (y : Node). IsBare (length p.functions) n y.instr) x nodes all)) is
+  any_none test (x ∷ nodes) n tells all is = by (test x.instr) (tells x.instr (all_head (λ (y : Node). IsBare (length p.functions) n y.instr) x nodes all)) (any_none test nodes n tells (all_tail (λ (y : Node). IsBare (length p.functions) n y.instr) x nodes all)) is
     where
-      by : (b : Bool) → b ≡ false → (b || list_any (λ (y : Node). test y.instr) nodes) ≡ true → ⊥
-      by true no_test any = absurd (cc)
-      by false no_test any = any_none test nodes n tells (all_tail (λ (y : Node). IsBare (length p.functions) n y.instr) x nodes all) any
+      by : (b : Bool) → b ≡ false → (list_any (λ (y : Node). test y.instr) nodes ≡ true → ⊥) → (b || list_any (λ (y : Node). test y.instr) nodes) ≡ true → ⊥
+      by true no_test rest any = absurd (cc)
+      by false no_test rest any = rest any
 
   reaches_none : (test : Instr → Bool) → ((n : ℕ) (i : Instr) → IsBare (length p.functions) n i → test i ≡ false) → (f : ℕ) → Reaches p test f → ⊥
-  reaches_none test tells f (reaches_itself f function there passes) =
+  reaches_none test tells _ (reaches_itself f function there passes) =
       any_none test function.graph.nodes (length function.graph.nodes) (tells (length function.graph.nodes)) (all_at (IsBareFunction (length p.functions)) p.functions f function whole.functions there).instructions passes
-  reaches_none test tells f (reaches_through f g function n there calls reaches) = reaches_none test tells g reaches
+  reaches_none test tells _ (reaches_through f g function n there calls reaches) = reaches_none test tells g reaches
 
   effects_are : AreEffects (library_effects []) p p.effects
   effects_are = record { count = whole.count; frees = λ f e here. frees_none f e here; writes = λ f e here. writes_none f e here }
@@ -163,8 +163,7 @@ module _ (p : Project) (whole : IsBareProject p) where
       is_none f e here = all_at (λ (x : Effects). x ≡ none) p.effects f e whole.effects here
 
       no_true : (b : Bool) → b ≡ false → IsTrue b → ⊥
-      no_true true is_false is = absurd (cc)
-      no_true false is_false is = is
+      no_true b is_false is = let both : true ≡ false = sym is ∙ is_false in absurd (cc)
 
       frees : (f : ℕ) → Reaches p (frees_here (library_effects [])) f → ⊥
       frees = reaches_none (frees_here (library_effects [])) (λ n. tells_none (length p.functions) n (frees_here (library_effects [])) (λ next. refl) (λ g. refl) refl refl)
@@ -181,7 +180,7 @@ module _ (p : Project) (whole : IsBareProject p) where
   pub is_whole : IsWhole [] p
   is_whole = record {
     functions = all_as (IsBareFunction (length p.functions)) (FunctionFits [] p) p.functions function_fits whole.functions;
-    globals = all_none _ p.globals whole.globals;
-    texts = all_none _ p.texts whole.texts;
+    globals = all_none (λ (g : Global). (g.size ≤ greatest_size) × (1 ≤ g.align)) p.globals whole.globals;
+    texts = all_none (λ (text : List ℕ). length text + 1 ≤ greatest_size) p.texts whole.texts;
     effects = effects_are;
   }
