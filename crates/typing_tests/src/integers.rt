@@ -1,10 +1,25 @@
 use po_arith::{IntType, Target};
 use po_constants::number;
 
-const INT: IntType = IntType { bits: 32, signed: true };
-const UNSIGNED: IntType = IntType { bits: 32, signed: false };
-const LONG: IntType = IntType { bits: 64, signed: true };
-const UNSIGNED_LONG: IntType = IntType { bits: 64, signed: false };
+const INT: IntType = IntType {
+    bits: 32,
+    signed: true,
+};
+
+const UNSIGNED: IntType = IntType {
+    bits: 32,
+    signed: false,
+};
+
+const LONG: IntType = IntType {
+    bits: 64,
+    signed: true,
+};
+
+const UNSIGNED_LONG: IntType = IntType {
+    bits: 64,
+    signed: false,
+};
 
 /// Whether a text is a constant of this type and value; None stands for no constant.
 fn is_number(text: &[u8], wanted: Option<(IntType, u64)>) -> bool {
@@ -42,8 +57,16 @@ fn octal_and_hexadecimal_constants_may_be_unsigned(rt: HostRuntime) {
         (b"037777777777", UNSIGNED, 4294967295),
         (b"040000000000", LONG, 4294967296),
         (b"0777777777777777777777", LONG, 9223372036854775807),
-        (b"01000000000000000000000", UNSIGNED_LONG, 9223372036854775808),
-        (b"01777777777777777777777", UNSIGNED_LONG, 18446744073709551615),
+        (
+            b"01000000000000000000000",
+            UNSIGNED_LONG,
+            9223372036854775808,
+        ),
+        (
+            b"01777777777777777777777",
+            UNSIGNED_LONG,
+            18446744073709551615,
+        ),
         (b"0x7fffffff", INT, 2147483647),
         (b"0X80000000", UNSIGNED, 2147483648),
         (b"0xFFFFffff", UNSIGNED, 4294967295),
@@ -65,7 +88,11 @@ fn suffixes_leave_out_narrower_types_and_signed_ones(rt: HostRuntime) {
         (b"1u", UNSIGNED, 1),
         (b"4294967295U", UNSIGNED, 4294967295),
         (b"4294967296u", UNSIGNED_LONG, 4294967296),
-        (b"18446744073709551615u", UNSIGNED_LONG, 18446744073709551615),
+        (
+            b"18446744073709551615u",
+            UNSIGNED_LONG,
+            18446744073709551615,
+        ),
         (b"0xffffffffu", UNSIGNED, 4294967295),
         (b"1l", LONG, 1),
         (b"2147483648L", LONG, 2147483648),
@@ -82,7 +109,11 @@ fn suffixes_leave_out_narrower_types_and_signed_ones(rt: HostRuntime) {
         (b"1lU", UNSIGNED_LONG, 1),
         (b"1ull", UNSIGNED_LONG, 1),
         (b"1LLU", UNSIGNED_LONG, 1),
-        (b"18446744073709551615LLu", UNSIGNED_LONG, 18446744073709551615),
+        (
+            b"18446744073709551615LLu",
+            UNSIGNED_LONG,
+            18446744073709551615,
+        ),
         (b"0xffUll", UNSIGNED_LONG, 255),
     ];
     for (text, t, value) in rows {

@@ -1,4 +1,4 @@
-//! Tests of typing: values of constants, results of operators (`po_constants`).
+//! Tests of typing: values of constants, results of operators (`po_constants`), types of words (`po_specified`).
 #![tactic(auto)]
 
 #[cfg(test)]
@@ -9,3 +9,5 @@ mod integers;
 mod operators;
 #[cfg(test)]
 mod strings;
+#[cfg(test)]
+mod type_words;

@@ -4,13 +4,40 @@ use po_arith::{IntType, fits};
 use po_base::Op;
 use po_constants::{becomes, compares, complemented, computes, shifts};
 
-const BOOL: IntType = IntType { bits: 1, signed: false };
-const CHAR: IntType = IntType { bits: 8, signed: true };
-const UNSIGNED_CHAR: IntType = IntType { bits: 8, signed: false };
-const INT: IntType = IntType { bits: 32, signed: true };
-const UNSIGNED: IntType = IntType { bits: 32, signed: false };
-const LONG: IntType = IntType { bits: 64, signed: true };
-const UNSIGNED_LONG: IntType = IntType { bits: 64, signed: false };
+const BOOL: IntType = IntType {
+    bits: 1,
+    signed: false,
+};
+
+const CHAR: IntType = IntType {
+    bits: 8,
+    signed: true,
+};
+
+const UNSIGNED_CHAR: IntType = IntType {
+    bits: 8,
+    signed: false,
+};
+
+const INT: IntType = IntType {
+    bits: 32,
+    signed: true,
+};
+
+const UNSIGNED: IntType = IntType {
+    bits: 32,
+    signed: false,
+};
+
+const LONG: IntType = IntType {
+    bits: 64,
+    signed: true,
+};
+
+const UNSIGNED_LONG: IntType = IntType {
+    bits: 64,
+    signed: false,
+};
 
 /// An operator, its operands, and what it gives; None stands for no result.
 type Row = (Op, i128, i128, Option<i128>);
@@ -92,7 +119,12 @@ fn unsigned_results_are_taken_modulo(rt: HostRuntime) {
         assert!(rt; computed(UNSIGNED, row) == row.3);
     }
     let wide: [Row; 5] = [
-        (Op::Add, 18446744073709551615, 18446744073709551615, Some(18446744073709551614)),
+        (
+            Op::Add,
+            18446744073709551615,
+            18446744073709551615,
+            Some(18446744073709551614),
+        ),
         (Op::Sub, 0, 18446744073709551615, Some(1)),
         (Op::Mul, 18446744073709551615, 18446744073709551615, Some(1)),
         (Op::Mul, 6000000000, 6000000000, Some(17553255926290448384)),
@@ -135,7 +167,10 @@ fn shifts_are_by_less_than_the_width(rt: HostRuntime) {
     assert!(rt; shifted(UNSIGNED, &(Op::Shl, 3, 31, None)) == Some(2147483648));
     assert!(rt; shifted(UNSIGNED, &(Op::Shl, 1, 32, None)) == None);
     assert!(rt; shifted(UNSIGNED, &(Op::Shr, 4294967295, 31, None)) == Some(1));
-    assert!(rt; shifted(UNSIGNED_LONG, &(Op::Shl, 18446744073709551615, 63, None)) == Some(9223372036854775808));
+    assert!(rt;
+        shifted(UNSIGNED_LONG, &(Op::Shl, 18446744073709551615, 63, None))
+            == Some(9223372036854775808)
+    );
     assert!(rt; shifted(LONG, &(Op::Shl, 1, 63, None)) == None);
     assert!(rt; shifted(LONG, &(Op::Shr, 1, 18446744073709551615, None)) == None);
 }

@@ -1,0 +1,5 @@
+mod Passed
+mod Pointers
+mod Reordered
+mod WordRows
+mod TypeWordsCounted
