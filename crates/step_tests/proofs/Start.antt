@@ -1,29 +1,22 @@
 -- The start of a bare function belongs to its project.
-use Rattle.std.specs.Prelude.{ℕ, zero, suc, ◌≡◌, ◌≤◌, ◌<◌, [], ◌∷◌, List, All, Option, Some, None, MatchOption, false, length, reverse, slice_get}
+use Rattle.std.specs.Prelude.{ℕ, zero, suc, ◌≡◌, ◌<◌, [], ◌∷◌, ◌++◌, List, Option, Some, None, MatchOption, false, length, slice_get}
 use Rattle.std.proofs.Common.{refl, sym, ap, ◌∙◌, subst}
 use Rattle.std.proofs.lemmas.List.Elements.{All-nil, All-cons}
 use Rattle.po_lists.proofs.Places.{all_at, item_at}
-use Rattle.po_base.specs.declared.numbers.FunNo.{FunNo}
-use Rattle.po_base.specs.declared.numbers.RegNo.{RegNo}
 use Rattle.po_base.specs.declared.numbers.SlotNo.{SlotNo}
-use Rattle.po_ir.specs.declared.graph.Graph.{Graph}
 use Rattle.po_ir.specs.declared.graph.Reg.{Reg as Register}
-use Rattle.po_ir.specs.declared.instr.Instr.{Instr}
-use Rattle.po_ir.specs.declared.instr.Ty.{Ty}
 use Rattle.po_ir.specs.declared.project.Function.{Function}
 use Rattle.po_ir.specs.declared.project.Project.{Project}
 use Rattle.po_ir.specs.Instructions.{entered, used}
 use Rattle.po_ir.specs.Paths.{start}
-use Rattle.po_ir.specs.Whole.{IsTemporary, greatest_size, parameter_types}
-use Rattle.po_memory.specs.declared.block.Block.{Block}
 use Rattle.po_memory.specs.declared.frame.Frame.{Frame}
 use Rattle.po_memory.specs.declared.value.Value.{Value}
 use Rattle.po_memory.specs.Values.{register_value}
 use Rattle.po_meaning.specs.declared.state.State.{State as Stored}
-use Rattle.po_meaning.specs.Needs.{Needs, NeedsSlot}
+use Rattle.po_meaning.specs.Needs.{Needs}
 use Rattle.po_meaning.specs.Operands.{slot_block}
 use Rattle.po_meaning.specs.States.{State}
-use Rattle.po_meaning.specs.Belongs.{Belongs, FrameBelongs, FramePoints, HasEntered, HasSome, IsPartThere, PointsThere}
+use Rattle.po_meaning.specs.Belongs.{Belongs, FrameBelongs, FramePoints}
 use Rattle.po_step.specs.Stepping.{IsStateOf}
 use Rattle.step_tests.specs.Bare.{IsBareFunction, IsBareProject}
 use Rattle.step_tests.proofs.Whole.{instruction_at, no_items, uses_none}
@@ -92,3 +85,12 @@ module _ (p : Project) (whole : IsBareProject p) (n : ℕ) (inside : n < length 
 
   pub starts : (stored : Stored) → stored.frames ≡ bare_frame n ∷ [] → stored.memory.blocks ≡ [] → IsStateOf p stored
   starts stored frames memory = record { state = record { top = bare_frame n; rest = []; memory = [] }; shown = record { frames_shown = frames; memory_shown = memory }; belongs = belongs }
+
+-- a frame without registers, slots and arguments, behind no others
+pub alone : (n : ℕ) (frames waiting : List Frame) (regs : List (Option Value)) (slots : List (Option ℕ)) (args : List Value) →
+    frames ≡ waiting ++ record { function = record { 0 = n }; node = record { 0 = 0 }; regs = regs; slots = slots; args = args } ∷ [] → waiting ≡ [] → regs ≡ [] → slots ≡ [] → args ≡ [] → frames ≡ bare_frame n ∷ []
+alone n frames waiting regs slots args pushed none_waits no_regs no_slots no_args =
+    pushed ∙ ap (λ (ws : List Frame). ws ++ record { function = record { 0 = n }; node = record { 0 = 0 }; regs = regs; slots = slots; args = args } ∷ []) none_waits
+    ∙ ap (λ (rs : List (Option Value)). record { function = record { 0 = n }; node = record { 0 = 0 }; regs = rs; slots = slots; args = args } ∷ []) no_regs
+    ∙ ap (λ (ss : List (Option ℕ)). record { function = record { 0 = n }; node = record { 0 = 0 }; regs = []; slots = ss; args = args } ∷ []) no_slots
+    ∙ ap (λ (vs : List Value). record { function = record { 0 = n }; node = record { 0 = 0 }; regs = []; slots = []; args = vs } ∷ []) no_args

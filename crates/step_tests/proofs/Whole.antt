@@ -1,15 +1,15 @@
 -- A project of bare functions is whole.
-use Rattle.std.specs.Prelude.{ℕ, ◌+◌, ◌≡◌, ◌≤◌, ◌<◌, ◌↔◌, [], ◌∷◌, List, All, Bool, true, false, ◌||◌, IsTrue, map, take, codes, Contains, Option, Some, None, MatchOption, length, slice_get}
+use Rattle.std.specs.Prelude.{ℕ, ◌+◌, ◌≡◌, ◌≤◌, ◌<◌, ◌↔◌, [], ◌∷◌, List, All, Bool, true, false, ◌||◌, IsTrue, map, take, codes, Option, Some, None, MatchOption, length, replicate, slice_get}
 use Rattle.std.specs.List.{list_any}
 use Rattle.std.proofs.Common.{refl, sym, ap, ◌∙◌, subst, arith}
-use Rattle.std.proofs.lemmas.List.Elements.{All-nil, All-cons}
+use Rattle.std.proofs.lemmas.List.{length-replicate}
+use Rattle.std.proofs.lemmas.List.Elements.{All-nil, All-cons, All-replicate}
 use Rattle.po_lists.proofs.Places.{all_at, all_head, all_tail, item_at}
 use Rattle.po_base.specs.declared.numbers.FunNo.{FunNo}
 use Rattle.po_base.specs.declared.numbers.NodeNo.{NodeNo}
 use Rattle.po_base.specs.declared.numbers.RegNo.{RegNo}
 use Rattle.po_base.specs.declared.numbers.SlotNo.{SlotNo}
 use Rattle.po_base.specs.declared.operand.Opnd.{Opnd}
-use Rattle.po_base.specs.declared.operand.Opnd.TheVariants as operand
 use Rattle.po_ir.specs.declared.graph.Graph.{Graph}
 use Rattle.po_ir.specs.declared.graph.Node.{Node}
 use Rattle.po_ir.specs.declared.graph.Reg.{Reg as Register}
@@ -19,19 +19,18 @@ use Rattle.po_ir.specs.declared.instr.Callee.TheVariants.{Fun, Extern as Undefin
 use Rattle.po_ir.specs.declared.instr.Instr.{Instr}
 use Rattle.po_ir.specs.declared.instr.Instr.TheVariants.{Const, Copy, Bin, Un, Conv, AddrSlot, AddrGlobal, AddrStr, PtrAdd, PtrDiff, Load, Store, CopyBytes, Fill, Enter, Leave, Call, Lib, If, Jump, Return, Never}
 use Rattle.po_ir.specs.declared.instr.Reason.{Reason}
-use Rattle.po_ir.specs.declared.instr.Reason.TheVariants.{End, Unread}
+use Rattle.po_ir.specs.declared.instr.Reason.TheVariants.{End}
 use Rattle.po_ir.specs.declared.instr.Ty.{Ty}
 use Rattle.po_ir.specs.declared.project.Effects.{Effects}
 use Rattle.po_ir.specs.declared.project.Function.{Function}
 use Rattle.po_ir.specs.declared.project.Global.{Global}
 use Rattle.po_ir.specs.declared.project.Project.{Project}
-use Rattle.po_ir.specs.Instructions.{operands, used}
-use Rattle.po_ir.specs.IntTypes.{HasTypesOfTarget, IsTypeOfTarget, types_in}
+use Rattle.po_ir.specs.Instructions.{used}
+use Rattle.po_ir.specs.IntTypes.{IsTypeOfTarget, types_in}
 use Rattle.po_ir.specs.Paths.{NodeAt}
-use Rattle.po_ir.specs.Reaching.{AreEffects, LibraryEffects, Reaches, reaches_itself, reaches_through, does, frees_here, writes_here}
-use Rattle.po_ir.specs.Valid.{NamesParts}
-use Rattle.po_ir.specs.Whole.{CallFits, CalleesFit, FunctionFits, Gives, InstructionFits, IsTemporary, IsUnread, IsVariable, IsWhole, Passes, ReturnFits, greatest_size, library_effects, parameter_types, type_of}
-use Rattle.po_ir.specs.Types.{IsResultType}
+use Rattle.po_ir.specs.Reaching.{AreEffects, Reaches, reaches_itself, reaches_through, frees_here, writes_here}
+use Rattle.po_ir.specs.Valid.{EndsLast, NamesParts}
+use Rattle.po_ir.specs.Whole.{CallFits, CalleesFit, FunctionFits, InstructionFits, IsTemporary, IsUnread, IsWhole, Passes, greatest_size, library_effects, parameter_types, type_of}
 use Rattle.step_tests.specs.Bare.{CallsSome, IsBare, IsBareFunction, IsBareProject, none}
 
 pub no_items : {X : Type 0} (xs : List X) (k : ℕ) (x : X) → xs ≡ [] → slice_get xs k ≡ Some x → ⊥
@@ -184,3 +183,28 @@ module _ (p : Project) (whole : IsBareProject p) where
     texts = all_none (λ (text : List ℕ). length text + 1 ≤ greatest_size) p.texts whole.texts;
     effects = effects_are;
   }
+
+-- a project that is built of bare functions, as many as are counted, and of no globals and texts
+pub built : (count : ℕ) (p : Project) → All (IsBareFunction count) p.functions → length p.functions ≡ count → p.globals ≡ [] → p.texts ≡ [] → p.effects ≡ replicate count none → IsBareProject p × IsWhole [] p
+built count p functions counted globals texts effects = (bare, is_whole p bare)
+  where
+    bare : IsBareProject p
+    bare = record {
+      functions = subst (λ (n : ℕ). All (IsBareFunction n) p.functions) (sym counted) functions;
+      globals = globals;
+      texts = texts;
+      effects = subst (All (λ (e : Effects). e ≡ none)) (sym effects) (All-replicate (λ (e : Effects). e ≡ none) count none refl);
+      count = ap (λ (es : List Effects). length es) effects ∙ length-replicate count none ∙ sym counted;
+    }
+
+-- a function that is built of bare nodes, of which the last doesn't fall through
+pub bare : (functions : ℕ) (f : Function) → f.graph.regs ≡ [] → f.graph.slots ≡ [] → f.graph.params ≡ 0 → f.result.text ≡ codes "void" →
+    (nodes : List Node) → f.graph.nodes ≡ nodes → All (λ (n : Node). IsBare functions (length nodes) n.instr) nodes → EndsLast nodes → IsBareFunction functions f
+bare functions f regs slots params void nodes same instructions last = record {
+  regs = regs;
+  slots = slots;
+  params = params;
+  void = void;
+  instructions = subst (λ (ns : List Node). All (λ (n : Node). IsBare functions (length ns) n.instr) ns) (sym same) instructions;
+  last = subst EndsLast (sym same) last;
+}

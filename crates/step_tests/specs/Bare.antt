@@ -1,5 +1,5 @@
 -- Functions without registers and slots, that only jump, call one another and return.
-use Rattle.std.specs.Prelude.{ℕ, ◌≡◌, ◌<◌, [], List, All, false, codes, length, None}
+use Rattle.std.specs.Prelude.{ℕ, ◌≡◌, ◌<◌, [], All, false, codes, length, None}
 use Rattle.po_ir.specs.declared.graph.Node.{Node}
 use Rattle.po_ir.specs.declared.instr.Callee.{Callee}
 use Rattle.po_ir.specs.declared.instr.Callee.TheVariants.{Fun, Extern as Undefined}

@@ -27,7 +27,12 @@ fn is_bare(instr: &Instr, functions: usize, nodes: usize) -> bool
 {
     match instr {
         Instr::Jump { next } => (next.0 as usize) < nodes,
-        Instr::Call { to, callee, args, strings } => {
+        Instr::Call {
+            to,
+            callee,
+            args,
+            strings,
+        } => {
             to.is_none() && calls_some(callee, functions) && args.is_empty() && strings.is_empty()
         }
         Instr::Return { value } => value.is_none(),
@@ -97,7 +102,8 @@ pub(crate) fn add_function(
         local: false,
         result: CTypeText { text },
         graph,
-    })
+    })?;
+    Ok(())
 }
 
 fn no_effects(alloc: Global, count: usize) -> Result<List<Effects>, Memory>

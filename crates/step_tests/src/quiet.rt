@@ -28,6 +28,7 @@ impl Library for Quiet {
 
 impl Outcomes for Quiet {
     ghost signatures = { λ it. [] };
+
     ghost outcomes = { λ it lib values before ending after. ⊥ };
 
     fn parameters(&self, _lib: LibNo) -> &[Ty] {

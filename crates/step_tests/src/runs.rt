@@ -51,7 +51,11 @@ fn tell_end(out: &mut Out, step: Step) -> Result<(), Memory> {
     match step {
         Step::Next => out.add(b"next"),
         Step::Ended => out.add(b"ended"),
-        Step::Violated { function, node, index } => {
+        Step::Violated {
+            function,
+            node,
+            index,
+        } => {
             out.add(b"violated ")?;
             out.add_number(function.0)?;
             out.add(b".")?;
