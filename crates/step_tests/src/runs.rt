@@ -13,25 +13,33 @@ use po_step::{Step, step_once};
 use std::alloc::Global;
 use std::test::Fail;
 
-/// Function 0 calls function 1 twice and returns; function 1 jumps and returns; function 2 jumps to where it must not come.
+/// Function 0 calls function 1 twice and returns; function 1 jumps and returns; function 2 jumps to where it must not come;
+/// function 3 jumps back for ever; function 4 calls function 0 and returns.
 fn functions(alloc: Global) -> Result<List<Function>, Memory>
-    ensures { IfOk result (λ list. All (IsBareFunction 3) list) }
+    ensures { IfOk result (λ list. All (IsBareFunction 5) list) }
 {
     let mut functions = List::new(alloc);
     let mut nodes = List::new(alloc);
     add_node(alloc, &mut nodes, call(alloc, 1))?;
     add_node(alloc, &mut nodes, call(alloc, 1))?;
     add_node(alloc, &mut nodes, Instr::Return { value: None })?;
-    add_function(alloc, &mut functions, 3, nodes)?;
+    add_function(alloc, &mut functions, 5, nodes)?;
     let mut nodes = List::new(alloc);
     add_node(alloc, &mut nodes, Instr::Jump { next: NodeNo(1) })?;
     add_node(alloc, &mut nodes, Instr::Return { value: None })?;
-    add_function(alloc, &mut functions, 3, nodes)?;
+    add_function(alloc, &mut functions, 5, nodes)?;
     let mut nodes = List::new(alloc);
     add_node(alloc, &mut nodes, Instr::Jump { next: NodeNo(1) })?;
     let reason = Reason::End;
     add_node(alloc, &mut nodes, Instr::Never { reason })?;
-    add_function(alloc, &mut functions, 3, nodes)?;
+    add_function(alloc, &mut functions, 5, nodes)?;
+    let mut nodes = List::new(alloc);
+    add_node(alloc, &mut nodes, Instr::Jump { next: NodeNo(0) })?;
+    add_function(alloc, &mut functions, 5, nodes)?;
+    let mut nodes = List::new(alloc);
+    add_node(alloc, &mut nodes, call(alloc, 0))?;
+    add_node(alloc, &mut nodes, Instr::Return { value: None })?;
+    add_function(alloc, &mut functions, 5, nodes)?;
     Ok(functions)
 }
 
@@ -90,7 +98,7 @@ fn told(alloc: Global, p: &Project, s: State) -> Result<Out, Memory>
 
 /// Whether the run that starts at the function goes so.
 fn goes(alloc: Global, n: u32, expected: &[u8]) -> Result<bool, Memory> {
-    match project(alloc, functions(alloc)?, 3)? {
+    match project(alloc, functions(alloc)?, 5)? {
         None => Ok(false),
         Some(p) => match start(alloc, &p, n)? {
             None => Ok(false),
@@ -102,6 +110,20 @@ fn goes(alloc: Global, n: u32, expected: &[u8]) -> Result<bool, Memory> {
 #[test]
 fn a_run_goes_through_calls_and_returns_to_its_end(rt: HostRuntime) -> Result<(), Fail> {
     assert!(rt; goes(rt.alloc(), 0, b"0.0 1.0 1.1 0.1 1.0 1.1 0.2 ended")?);
+    Ok(())
+}
+
+#[test]
+fn calls_within_calls_return_to_the_frame_that_waits_next(rt: HostRuntime) -> Result<(), Fail> {
+    assert!(rt; goes(rt.alloc(), 4, b"4.0 0.0 1.0 1.1 0.1 1.0 1.1 0.2 4.1 ended")?);
+    Ok(())
+}
+
+#[test]
+fn a_run_that_jumps_back_goes_on_without_an_end(rt: HostRuntime) -> Result<(), Fail> {
+    let twenty =
+        b"3.0 3.0 3.0 3.0 3.0 3.0 3.0 3.0 3.0 3.0 3.0 3.0 3.0 3.0 3.0 3.0 3.0 3.0 3.0 3.0 ";
+    assert!(rt; goes(rt.alloc(), 3, twenty)?);
     Ok(())
 }
 
