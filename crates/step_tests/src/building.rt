@@ -1,15 +1,21 @@
-ghost use Rattle.std.specs.Prelude.{◌≡◌, All, true, IfOk, IfSome, OnOk, [], length, replicate};
+ghost use Rattle.std.specs.Prelude.{◌≡◌, ◌∷◌, All, Some, false, true, IfOk, IfSome, OnOk, [], length, replicate};
+ghost use Rattle.po_base.specs.declared.operand.Opnd.TheVariants as operand;
+ghost use Rattle.po_arith.specs.Types.{IsOfType};
 ghost use Rattle.po_ir.specs.declared.graph.Node.{Node as GraphNode};
+ghost use Rattle.po_ir.specs.declared.instr.Ty.TheVariants.{Int};
+ghost use Rattle.po_ir.specs.Types.{is_comparison, is_shift};
 ghost use Rattle.po_ir.specs.Valid.{EndsLast};
 ghost use Rattle.po_ir.specs.Whole.{IsWhole};
 ghost use Rattle.po_step.specs.Stepping.{IsStateOf};
-ghost use Rattle.step_tests.specs.Bare.{CallsSome, IsBare, IsBareFunction, IsBareProject, none};
+ghost use Rattle.step_tests.specs.Bare.{CallsSome, IsBare, IsBareFunction, IsBareProject, IsSingle, int, none};
 
-use po_arith::Target;
-use po_base::{FileNo, FunNo, List, Memory, NodeNo, Spot, Text};
-use po_ir::{CTypeText, Callee, Effects, Function, Graph, Instr, Node, Project, Reason, valid};
+use po_arith::{IntType, Target};
+use po_base::{FileNo, FunNo, List, Memory, NodeNo, Op, Opnd, RegNo, Spot, Text};
+use po_ir::{
+    CTypeText, Callee, Effects, Function, Graph, Instr, Node, Project, Reason, Reg, Ty, valid,
+};
 use po_meaning::State;
-use po_memory::{Frame, Memory2};
+use po_memory::{Frame, Memory2, Value};
 use std::alloc::Global;
 
 fn calls_some(callee: &Callee, functions: usize) -> bool
@@ -21,11 +27,83 @@ fn calls_some(callee: &Callee, functions: usize) -> bool
     }
 }
 
-/// Whether an instruction of so many nodes and functions only jumps, calls, returns, or is never to be reached.
+fn is_int(ty: &Ty) -> bool
+    ensures { result ≡ true → ty.now ≡ Int int }
+{
+    match ty {
+        Ty::Int(t) => t.bits == 32 && t.signed,
+        Ty::Ptr => false,
+    }
+}
+
+fn is_single(operand: &Opnd) -> bool
+    ensures { result ≡ true → IsSingle operand.now }
+{
+    match operand {
+        Opnd::Reg(r) => r.0 == 0,
+        Opnd::Num(v) => *v == 1,
+    }
+}
+
+/// Whether the operator subtracts or divides.
+fn computes(op: Op) -> bool
+    ensures { result ≡ true → (is_comparison op ≡ false) × (is_shift op ≡ false) }
+{
+    match op {
+        Op::Sub | Op::Div => true,
+        _ => false,
+    }
+}
+
+fn is_first(to: &Option<RegNo>) -> bool
+    ensures { result ≡ true → to.now ≡ Some (record { 0 = 0 }) }
+{
+    match to {
+        Some(r) => r.0 == 0,
+        None => false,
+    }
+}
+
+fn is_register(value: &Option<Opnd>) -> bool
+    ensures { result ≡ true → value.now ≡ Some (operand.Reg (record { 0 = 0 })) }
+{
+    match value {
+        Some(Opnd::Reg(r)) => r.0 == 0,
+        _ => false,
+    }
+}
+
+fn is_one_register(args: &[Opnd]) -> bool
+    ensures { result ≡ true → args.now ≡ operand.Reg (record { 0 = 0 }) ∷ [] }
+{
+    match args {
+        [Opnd::Reg(r)] => r.0 == 0,
+        _ => false,
+    }
+}
+
+/// Whether an instruction of so many nodes and functions is one of the few that are served here, over one register.
 fn is_bare(instr: &Instr, functions: usize, nodes: usize) -> bool
     ensures { result ≡ true → IsBare functions nodes instr.now }
 {
     match instr {
+        Instr::Bin { to, op, ty, a, b } => {
+            to.0 == 0 && computes(*op) && is_int(ty) && is_single(a) && is_single(b)
+        }
+        Instr::If {
+            op: _,
+            ty,
+            a,
+            b,
+            yes,
+            no,
+        } => {
+            is_int(ty)
+                && is_single(a)
+                && is_single(b)
+                && (yes.0 as usize) < nodes
+                && (no.0 as usize) < nodes
+        }
         Instr::Jump { next } => (next.0 as usize) < nodes,
         Instr::Call {
             to,
@@ -33,9 +111,12 @@ fn is_bare(instr: &Instr, functions: usize, nodes: usize) -> bool
             args,
             strings,
         } => {
-            to.is_none() && calls_some(callee, functions) && args.is_empty() && strings.is_empty()
+            is_first(to)
+                && calls_some(callee, functions)
+                && is_one_register(args.as_slice())
+                && strings.is_empty()
         }
-        Instr::Return { value } => value.is_none(),
+        Instr::Return { value } => is_register(value),
         Instr::Never { reason } => match reason {
             Reason::End => true,
             Reason::Unread => false,
@@ -64,17 +145,39 @@ pub(crate) fn add_node(alloc: Global, nodes: &mut List<Node>, instr: Instr) -> R
     nodes.push(Node { instr, spot })
 }
 
-/// A call of a function without parameters.
-pub(crate) fn call(alloc: Global, n: u32) -> Instr {
-    Instr::Call {
-        to: None,
+/// The type int.
+pub(crate) const INT: Ty = Ty::Int(IntType {
+    bits: 32,
+    signed: true,
+});
+
+/// The one register of a function, as an operand.
+pub(crate) const ITSELF: Opnd = Opnd::Reg(RegNo(0));
+
+/// A call of a function with the register, which gets the result.
+pub(crate) fn call(alloc: Global, n: u32) -> Result<Instr, Memory> {
+    let mut args = List::new(alloc);
+    args.push(ITSELF)?;
+    Ok(Instr::Call {
+        to: Some(RegNo(0)),
         callee: Callee::Fun(FunNo(n)),
-        args: List::new(alloc),
+        args,
         strings: List::new(alloc),
+    })
+}
+
+/// `op` of an operand and another, into the register.
+pub(crate) fn compute(op: Op, a: Opnd, b: Opnd) -> Instr {
+    Instr::Bin {
+        to: RegNo(0),
+        op,
+        ty: INT,
+        a,
+        b,
     }
 }
 
-/// Adds a function of type void with these nodes, where they are bare ones among so many functions.
+/// Adds a function from int to int with these nodes, where they are bare ones among so many functions.
 pub(crate) fn add_function(
     alloc: Global,
     functions: &mut List<Function>,
@@ -86,16 +189,22 @@ pub(crate) fn add_function(
     if !are_bare(nodes.as_slice(), count) {
         return Ok(());
     }
+    let mut regs = List::new(alloc);
+    regs.push(Reg {
+        name: None,
+        ty: INT,
+        param: true,
+    })?;
     let graph = Graph {
         nodes,
-        regs: List::new(alloc),
+        regs,
         slots: List::new(alloc),
-        params: 0,
+        params: 1,
     };
     if !valid(&graph) {
         return Ok(());
     }
-    let text = Text::new(alloc, b"void")?;
+    let text = Text::new(alloc, b"i32")?;
     functions.push(Function {
         file: FileNo(0),
         name: Text::new(alloc, b"f")?,
@@ -142,21 +251,36 @@ pub(crate) fn project(
     }))
 }
 
-/// The start of a run at a function.
-pub(crate) fn start(alloc: Global, p: &Project, n: u32) -> Result<Option<State>, Memory>
+fn is_small(v: i128) -> bool
+    ensures { result ≡ true → IsOfType int v }
+{
+    0 <= v && v <= 1000
+}
+
+/// The start of a run at a function with an argument from 0 to 1000.
+pub(crate) fn start(
+    alloc: Global,
+    p: &Project,
+    n: u32,
+    argument: i128,
+) -> Result<Option<State>, Memory>
     requires { IsBareProject p.now }
     ensures { IfOk result (λ found. IfSome found (IsStateOf p.now)) }
 {
-    if p.functions.len() <= n as usize {
+    if p.functions.len() <= n as usize || !is_small(argument) {
         return Ok(None);
     }
+    let mut regs = List::new(alloc);
+    regs.push(Some(Value::Number(argument)))?;
+    let mut args = List::new(alloc);
+    args.push(Value::Number(argument))?;
     let mut frames = List::new(alloc);
     frames.push(Frame {
         function: FunNo(n),
         node: NodeNo(0),
-        regs: List::new(alloc),
+        regs,
         slots: List::new(alloc),
-        args: List::new(alloc),
+        args,
     })?;
     let blocks = List::new(alloc);
     Ok(Some(State {

@@ -1,8 +1,17 @@
-use Rattle.std.proofs.Common.{arith, ◌<◌, length}
-use Rattle.step_tests.proofs.Start.{alone, starts}
+use Rattle.std.proofs.Common.{arith, rules, ap, refl, subst, ◌<◌, ◌∙◌, ℤ, Some, [], ◌∷◌, length, FitsSigned}
+use Rattle.po_memory.specs.declared.value.Value.TheVariants.{Number}
+use Rattle.std.specs.Int.{w128}
+use Rattle.std.proofs.lemmas.Int.{to_z-of_z}
+use Rattle.po_arith.specs.Types.{IsOfType}
+use Rattle.step_tests.specs.Bare.{int}
+use Rattle.step_tests.proofs.Start.{alone, single, starts}
 use Rattle.step_tests.proofs.building.start.Goals as goal
 
 pub returns : goal.returns
 returns c =
     let inside : c.args.n < length c.args.p.now.functions = omega arith in
-    starts c.args.p.now c.requires c.args.n inside _ (alone c.args.n _ _ _ _ _ c.in_ok-push.ensures.ok c.new-frames.ensures c.new.ensures c.new-2.ensures c.new-3.ensures) c.new-blocks.ensures
+    let fits : FitsSigned w128 c.args.argument = search rules in
+    let same = to_z-of_z w128 c.args.argument fits in
+    let of : IsOfType int c.args.argument = subst (IsOfType int) same (c.if-not-is_small.ensures refl) in
+    starts c.args.p.now c.requires c.args.n inside c.args.argument of _
+    (alone c.args.n c.args.argument _ _ _ _ _ c.in_ok-push-3.ensures.ok c.new-frames.ensures (single _ _ _ c.in_ok-push.ensures.ok c.new-regs.ensures ∙ ap (λ (z : ℤ). Some (Number z) ∷ []) same) c.new.ensures (single _ _ _ c.in_ok-push-2.ensures.ok c.new-args.ensures ∙ ap (λ (z : ℤ). Number z ∷ []) same)) c.new-blocks.ensures
