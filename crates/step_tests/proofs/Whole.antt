@@ -31,7 +31,7 @@ use Rattle.po_ir.specs.Paths.{NodeAt}
 use Rattle.po_ir.specs.Reaching.{AreEffects, Reaches, reaches_itself, reaches_through, frees_here, writes_here}
 use Rattle.po_ir.specs.Valid.{EndsLast, NamesParts}
 use Rattle.po_ir.specs.Whole.{CallFits, CalleesFit, FunctionFits, InstructionFits, IsTemporary, IsUnread, IsWhole, Passes, greatest_size, library_effects, parameter_types, type_of}
-use Rattle.step_tests.specs.Bare.{CallsSome, IsBare, IsBareFunction, IsBareProject, none}
+use Rattle.step_tests.specs.Bare.{signatures, CallsSome, IsBare, IsBareFunction, IsBareProject, none}
 
 pub no_items : {X : Type 0} (xs : List X) (k : ℕ) (x : X) → xs ≡ [] → slice_get xs k ≡ Some x → ⊥
 no_items xs k x empty here = let at : slice_get [] k ≡ Some x = ap (λ ys. slice_get ys k) (sym empty) ∙ here in absurd (cc)
@@ -111,18 +111,18 @@ module _ (p : Project) (whole : IsBareProject p) where
       subst (λ (o : Option Function). MatchOption o ⊥ (λ (c : Function). (IsUnread c → ⊥) → CallFits f.graph None [] c)) (sym callee.1)
       (λ read. record { passes = subst (λ (ts : List Ty). Passes f.graph false ts []) (sym (no_types (length p.functions) callee.0 bare)) tt; result = tt })
 
-  fits : (f : Function) → IsBareFunction (length p.functions) f → (i : Instr) → IsBare (length p.functions) (length f.graph.nodes) i → InstructionFits [] p f i
-  fits f bare = each_kind (InstructionFits [] p f) (length p.functions) (length f.graph.nodes)
+  fits : (f : Function) → IsBareFunction (length p.functions) f → (i : Instr) → IsBare (length p.functions) (length f.graph.nodes) i → InstructionFits signatures p f i
+  fits f bare = each_kind (InstructionFits signatures p f) (length p.functions) (length f.graph.nodes)
       (λ next less. record { operands_lie = tt; compares_pointers = tt; result_fits = tt; numbers_fit = tt; callees_fit = tt; return_fits = tt; opens_variables = tt })
       (λ callee is. record { operands_lie = tt; compares_pointers = tt; result_fits = tt; numbers_fit = tt; callees_fit = by callee is; return_fits = tt; opens_variables = tt })
       (record { operands_lie = tt; compares_pointers = tt; result_fits = tt; numbers_fit = tt; callees_fit = tt; return_fits = bare.void; opens_variables = tt })
       (record { operands_lie = tt; compares_pointers = tt; result_fits = tt; numbers_fit = tt; callees_fit = tt; return_fits = tt; opens_variables = tt })
     where
-      by : (callee : Callee) → CallsSome (length p.functions) callee → CalleesFit [] p f.graph (Call None callee [] [])
+      by : (callee : Callee) → CallsSome (length p.functions) callee → CalleesFit signatures p f.graph (Call None callee [] [])
       by (Fun g) is = callee_fits g is f
       by (Undefined name) is = absurd is
 
-  function_fits : (f : Function) → IsBareFunction (length p.functions) f → FunctionFits [] p f
+  function_fits : (f : Function) → IsBareFunction (length p.functions) f → FunctionFits signatures p f
   function_fits f bare = record {
     valid = (all_as (λ (n : Node). IsBare (length p.functions) (length f.graph.nodes) n.instr) (λ (n : Node). NamesParts f.graph n.instr) f.graph.nodes (λ n. names (length p.functions) f.graph n.instr) bare.instructions, bare.last);
     parameters = record { there = let none_passed = bare.params in omega (arith, none_passed); first = λ r register here. absurd (no_items f.graph.regs r register bare.regs here) };
@@ -155,7 +155,7 @@ module _ (p : Project) (whole : IsBareProject p) where
       any_none test function.graph.nodes (length function.graph.nodes) (tells (length function.graph.nodes)) (all_at (IsBareFunction (length p.functions)) p.functions f function whole.functions there).instructions passes
   reaches_none test tells _ (reaches_through f g function n there calls reaches) = reaches_none test tells g reaches
 
-  effects_are : AreEffects (library_effects []) p p.effects
+  effects_are : AreEffects (library_effects signatures) p p.effects
   effects_are = record { count = whole.count; frees = λ f e here. frees_none f e here; writes = λ f e here. writes_none f e here }
     where
       is_none : (f : ℕ) (e : Effects) → slice_get p.effects f ≡ Some e → e ≡ none
@@ -164,28 +164,28 @@ module _ (p : Project) (whole : IsBareProject p) where
       no_true : (b : Bool) → b ≡ false → IsTrue b → ⊥
       no_true b is_false is = let both : true ≡ false = sym is ∙ is_false in absurd (cc)
 
-      frees : (f : ℕ) → Reaches p (frees_here (library_effects [])) f → ⊥
-      frees = reaches_none (frees_here (library_effects [])) (λ n. tells_none (length p.functions) n (frees_here (library_effects [])) (λ next. refl) (λ g. refl) refl refl)
+      frees : (f : ℕ) → Reaches p (frees_here (library_effects signatures)) f → ⊥
+      frees = reaches_none (frees_here (library_effects signatures)) (λ n. tells_none (length p.functions) n (frees_here (library_effects signatures)) (λ next. refl) (λ g. refl) refl refl)
 
-      writes : (f : ℕ) → Reaches p (writes_here (library_effects [])) f → ⊥
-      writes = reaches_none (writes_here (library_effects [])) (λ n. tells_none (length p.functions) n (writes_here (library_effects [])) (λ next. refl) (λ g. refl) refl refl)
+      writes : (f : ℕ) → Reaches p (writes_here (library_effects signatures)) f → ⊥
+      writes = reaches_none (writes_here (library_effects signatures)) (λ n. tells_none (length p.functions) n (writes_here (library_effects signatures)) (λ next. refl) (λ g. refl) refl refl)
 
-      frees_none : (f : ℕ) (e : Effects) → slice_get p.effects f ≡ Some e → IsTrue e.frees ↔ Reaches p (frees_here (library_effects [])) f
+      frees_none : (f : ℕ) (e : Effects) → slice_get p.effects f ≡ Some e → IsTrue e.frees ↔ Reaches p (frees_here (library_effects signatures)) f
       frees_none f e here = (λ is. absurd (no_true e.frees (ap (λ (x : Effects). x.frees) (is_none f e here)) is), λ reaches. absurd (frees f reaches))
 
-      writes_none : (f : ℕ) (e : Effects) → slice_get p.effects f ≡ Some e → IsTrue e.writes ↔ Reaches p (writes_here (library_effects [])) f
+      writes_none : (f : ℕ) (e : Effects) → slice_get p.effects f ≡ Some e → IsTrue e.writes ↔ Reaches p (writes_here (library_effects signatures)) f
       writes_none f e here = (λ is. absurd (no_true e.writes (ap (λ (x : Effects). x.writes) (is_none f e here)) is), λ reaches. absurd (writes f reaches))
 
-  pub is_whole : IsWhole [] p
+  pub is_whole : IsWhole signatures p
   is_whole = record {
-    functions = all_as (IsBareFunction (length p.functions)) (FunctionFits [] p) p.functions function_fits whole.functions;
+    functions = all_as (IsBareFunction (length p.functions)) (FunctionFits signatures p) p.functions function_fits whole.functions;
     globals = all_none (λ (g : Global). (g.size ≤ greatest_size) × (1 ≤ g.align)) p.globals whole.globals;
     texts = all_none (λ (text : List ℕ). length text + 1 ≤ greatest_size) p.texts whole.texts;
     effects = effects_are;
   }
 
 -- a project that is built of bare functions, as many as are counted, and of no globals and texts
-pub built : (count : ℕ) (p : Project) → All (IsBareFunction count) p.functions → length p.functions ≡ count → p.globals ≡ [] → p.texts ≡ [] → p.effects ≡ replicate count none → IsBareProject p × IsWhole [] p
+pub built : (count : ℕ) (p : Project) → All (IsBareFunction count) p.functions → length p.functions ≡ count → p.globals ≡ [] → p.texts ≡ [] → p.effects ≡ replicate count none → IsBareProject p × IsWhole signatures p
 built count p functions counted globals texts effects = (bare, is_whole p bare)
   where
     bare : IsBareProject p

@@ -1,5 +1,5 @@
 -- Functions without registers and slots, that only jump, call one another and return.
-use Rattle.std.specs.Prelude.{ℕ, ◌≡◌, ◌<◌, [], All, false, codes, length, None}
+use Rattle.std.specs.Prelude.{ℕ, ◌≡◌, ◌<◌, List, [], ◌∷◌, All, false, codes, length, None}
 use Rattle.po_ir.specs.declared.graph.Node.{Node}
 use Rattle.po_ir.specs.declared.instr.Callee.{Callee}
 use Rattle.po_ir.specs.declared.instr.Callee.TheVariants.{Fun, Extern as Undefined}
@@ -10,6 +10,11 @@ use Rattle.po_ir.specs.declared.project.Effects.{Effects}
 use Rattle.po_ir.specs.declared.project.Function.{Function}
 use Rattle.po_ir.specs.declared.project.Project.{Project}
 use Rattle.po_ir.specs.Valid.{EndsLast}
+use Rattle.po_ir.specs.Whole.{Signature}
+
+-- a library of one function, which nothing calls
+abbrev pub signatures : List Signature
+signatures = record { params = []; variadic = false; result = None; effects = record { frees = false; writes = false } } ∷ []
 
 abbrev pub CallsSome : ℕ → Callee → Type 0
 CallsSome functions (Fun g) = g.0 < functions

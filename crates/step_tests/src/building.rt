@@ -3,7 +3,7 @@ ghost use Rattle.po_ir.specs.declared.graph.Node.{Node as GraphNode};
 ghost use Rattle.po_ir.specs.Valid.{EndsLast};
 ghost use Rattle.po_ir.specs.Whole.{IsWhole};
 ghost use Rattle.po_step.specs.Stepping.{IsStateOf};
-ghost use Rattle.step_tests.specs.Bare.{CallsSome, IsBare, IsBareFunction, IsBareProject, none};
+ghost use Rattle.step_tests.specs.Bare.{signatures, CallsSome, IsBare, IsBareFunction, IsBareProject, none};
 
 use po_arith::Target;
 use po_base::{FileNo, FunNo, List, Memory, NodeNo, Spot, Text};
@@ -126,7 +126,7 @@ pub(crate) fn project(
     count: usize,
 ) -> Result<Option<Project>, Memory>
     requires { All (IsBareFunction count) functions }
-    ensures { IfOk result (λ found. IfSome found (λ p. IsBareProject p × IsWhole [] p)) }
+    ensures { IfOk result (λ found. IfSome found (λ p. IsBareProject p × IsWhole signatures p)) }
 {
     if functions.len() != count {
         return Ok(None);
