@@ -37,7 +37,7 @@ use Rattle.po_ir.specs.Reaching.{AreEffects, Reaches, reaches_itself, reaches_th
 use Rattle.po_ir.specs.Types.{HasTruth, IsKept, IsResultType, Lies, LiesAmongIntegers, TypeIs, integer_spellings, is_comparison}
 use Rattle.po_ir.specs.Valid.{EndsLast, IsThere, NamesParts}
 use Rattle.po_ir.specs.Whole.{CallFits, CalleesFit, FunctionFits, InstructionFits, IsTemporary, IsUnread, IsWhole, Passes, greatest_size, library_effects, parameter_types, type_of}
-use Rattle.step_tests.specs.Bare.{CallsSome, IsBare, IsBareFunction, IsBareProject, IsSingle, int, none, parameter}
+use Rattle.step_tests.specs.Bare.{signatures, CallsSome, IsBare, IsBareFunction, IsBareProject, IsSingle, int, none, parameter}
 
 pub no_items : {X : Type 0} (xs : List X) (k : ℕ) (x : X) → xs ≡ [] → slice_get xs k ≡ Some x → ⊥
 no_items xs k x empty here = let at : slice_get [] k ≡ Some x = ap (λ ys. slice_get ys k) (sym empty) ∙ here in absurd (cc)
@@ -177,8 +177,8 @@ module _ (p : Project) (whole : IsBareProject p) where
       })
 
   module _ (f : Function) (bare : IsBareFunction (length p.functions) f) where
-    bin_fits : (to : RegNo) (o : Op) (ty : Ty) (a b : Opnd) → IsBare (length p.functions) (length f.graph.nodes) (Bin to o ty a b) → InstructionFits [] p f (Bin to o ty a b)
-    bin_fits to o ty a b is = subst (λ (t : Ty). InstructionFits [] p f (Bin to o t a b)) (sym is.3) (record {
+    bin_fits : (to : RegNo) (o : Op) (ty : Ty) (a b : Opnd) → IsBare (length p.functions) (length f.graph.nodes) (Bin to o ty a b) → InstructionFits signatures p f (Bin to o ty a b)
+    bin_fits to o ty a b is = subst (λ (t : Ty). InstructionFits signatures p f (Bin to o t a b)) (sym is.3) (record {
       operands_lie = (lies f.graph bare.regs a is.4, subst (λ (s : Bool). cond s (LiesAmongIntegers f.graph b) (Lies f.graph (Int int) b)) (sym is.2) (lies f.graph bare.regs b is.5));
       compares_pointers = tt;
       result_fits = kept f.graph bare.regs to is.0 (λ (t : Ty). cond (is_comparison o) (HasTruth t) (IsKept (Int int) t)) (subst (λ (s : Bool). cond s (HasTruth (Int int)) (IsKept (Int int) (Int int))) (sym is.1) (λ v of. of));
@@ -188,8 +188,8 @@ module _ (p : Project) (whole : IsBareProject p) where
       opens_variables = tt;
     })
 
-    branch_fits : (o : Op) (ty : Ty) (a b : Opnd) (yes_side no_side : NodeNo) → IsBare (length p.functions) (length f.graph.nodes) (If o ty a b yes_side no_side) → InstructionFits [] p f (If o ty a b yes_side no_side)
-    branch_fits o ty a b yes_side no_side is = subst (λ (t : Ty). InstructionFits [] p f (If o t a b yes_side no_side)) (sym is.0) (record {
+    branch_fits : (o : Op) (ty : Ty) (a b : Opnd) (yes_side no_side : NodeNo) → IsBare (length p.functions) (length f.graph.nodes) (If o ty a b yes_side no_side) → InstructionFits signatures p f (If o ty a b yes_side no_side)
+    branch_fits o ty a b yes_side no_side is = subst (λ (t : Ty). InstructionFits signatures p f (If o t a b yes_side no_side)) (sym is.0) (record {
       operands_lie = (lies f.graph bare.regs a is.1, lies f.graph bare.regs b is.2);
       compares_pointers = tt;
       result_fits = tt;
@@ -199,12 +199,12 @@ module _ (p : Project) (whole : IsBareProject p) where
       opens_variables = tt;
     })
 
-    call_fits : (callee : Callee) → CallsSome (length p.functions) callee → CalleesFit [] p f.graph (Call (Some here) callee (itself ∷ []) [])
+    call_fits : (callee : Callee) → CallsSome (length p.functions) callee → CalleesFit signatures p f.graph (Call (Some here) callee (itself ∷ []) [])
     call_fits (Fun g) is = callee_fits g is f bare
     call_fits (Undefined name) is = absurd is
 
-    fits : (i : Instr) → IsBare (length p.functions) (length f.graph.nodes) i → InstructionFits [] p f i
-    fits = each_kind (InstructionFits [] p f) (length p.functions) (length f.graph.nodes) bin_fits branch_fits
+    fits : (i : Instr) → IsBare (length p.functions) (length f.graph.nodes) i → InstructionFits signatures p f i
+    fits = each_kind (InstructionFits signatures p f) (length p.functions) (length f.graph.nodes) bin_fits branch_fits
         (λ next less. record { operands_lie = tt; compares_pointers = tt; result_fits = tt; numbers_fit = tt; callees_fit = tt; return_fits = tt; opens_variables = tt })
         (λ callee is. record { operands_lie = tt; compares_pointers = tt; result_fits = tt; numbers_fit = tt; callees_fit = call_fits callee is; return_fits = tt; opens_variables = tt })
         (record { operands_lie = tt; compares_pointers = tt; result_fits = tt; numbers_fit = tt; callees_fit = tt; return_fits = (Int int, returns_int f.result.text bare.result, lies f.graph bare.regs itself refl); opens_variables = tt })
@@ -223,7 +223,7 @@ module _ (p : Project) (whole : IsBareProject p) where
     first_only : (r : ℕ) (register : Register) → slice_get f.graph.regs r ≡ Some register → IsTrue register.param ↔ (r < f.graph.params)
     first_only r register found = let one = only f.graph.regs parameter r register bare.regs found in let params = bare.params in let zeroth = one.0 in (λ is. omega (arith, params, zeroth), λ less. sym (ap (λ (x : Register). x.param) one.1))
 
-  function_fits : (f : Function) → IsBareFunction (length p.functions) f → FunctionFits [] p f
+  function_fits : (f : Function) → IsBareFunction (length p.functions) f → FunctionFits signatures p f
   function_fits f bare = record {
     valid = (all_as (λ (n : Node). IsBare (length p.functions) (length f.graph.nodes) n.instr) (λ (n : Node). NamesParts f.graph n.instr) f.graph.nodes (λ n. names (length p.functions) f.graph bare.regs n.instr) bare.instructions, bare.last);
     parameters = record { there = let params = bare.params in let one : length f.graph.regs ≡ 1 = ap (λ (rs : List Register). length rs) bare.regs in omega (arith, params, one); first = first_only f bare };
@@ -253,7 +253,7 @@ module _ (p : Project) (whole : IsBareProject p) where
       any_none test function.graph.nodes (length function.graph.nodes) (tells (length function.graph.nodes)) (all_at (IsBareFunction (length p.functions)) p.functions f function whole.functions there).instructions passes
   reaches_none test tells _ (reaches_through f g function n there calls reaches) = reaches_none test tells g reaches
 
-  effects_are : AreEffects (library_effects []) p p.effects
+  effects_are : AreEffects (library_effects signatures) p p.effects
   effects_are = record { count = whole.count; frees = λ f e here. frees_none f e here; writes = λ f e here. writes_none f e here }
     where
       is_none : (f : ℕ) (e : Effects) → slice_get p.effects f ≡ Some e → e ≡ none
@@ -262,28 +262,28 @@ module _ (p : Project) (whole : IsBareProject p) where
       no_true : (b : Bool) → b ≡ false → IsTrue b → ⊥
       no_true b is_false is = let both : true ≡ false = sym is ∙ is_false in absurd (cc)
 
-      frees : (f : ℕ) → Reaches p (frees_here (library_effects [])) f → ⊥
-      frees = reaches_none (frees_here (library_effects [])) (λ n. tells_none (length p.functions) n (frees_here (library_effects [])) (λ to o ty a b. refl) (λ o ty a b yes_side no_side. refl) (λ next. refl) (λ g. refl) refl refl)
+      frees : (f : ℕ) → Reaches p (frees_here (library_effects signatures)) f → ⊥
+      frees = reaches_none (frees_here (library_effects signatures)) (λ n. tells_none (length p.functions) n (frees_here (library_effects signatures)) (λ to o ty a b. refl) (λ o ty a b yes_side no_side. refl) (λ next. refl) (λ g. refl) refl refl)
 
-      writes : (f : ℕ) → Reaches p (writes_here (library_effects [])) f → ⊥
-      writes = reaches_none (writes_here (library_effects [])) (λ n. tells_none (length p.functions) n (writes_here (library_effects [])) (λ to o ty a b. refl) (λ o ty a b yes_side no_side. refl) (λ next. refl) (λ g. refl) refl refl)
+      writes : (f : ℕ) → Reaches p (writes_here (library_effects signatures)) f → ⊥
+      writes = reaches_none (writes_here (library_effects signatures)) (λ n. tells_none (length p.functions) n (writes_here (library_effects signatures)) (λ to o ty a b. refl) (λ o ty a b yes_side no_side. refl) (λ next. refl) (λ g. refl) refl refl)
 
-      frees_none : (f : ℕ) (e : Effects) → slice_get p.effects f ≡ Some e → IsTrue e.frees ↔ Reaches p (frees_here (library_effects [])) f
+      frees_none : (f : ℕ) (e : Effects) → slice_get p.effects f ≡ Some e → IsTrue e.frees ↔ Reaches p (frees_here (library_effects signatures)) f
       frees_none f e here = (λ is. absurd (no_true e.frees (ap (λ (x : Effects). x.frees) (is_none f e here)) is), λ reaches. absurd (frees f reaches))
 
-      writes_none : (f : ℕ) (e : Effects) → slice_get p.effects f ≡ Some e → IsTrue e.writes ↔ Reaches p (writes_here (library_effects [])) f
+      writes_none : (f : ℕ) (e : Effects) → slice_get p.effects f ≡ Some e → IsTrue e.writes ↔ Reaches p (writes_here (library_effects signatures)) f
       writes_none f e here = (λ is. absurd (no_true e.writes (ap (λ (x : Effects). x.writes) (is_none f e here)) is), λ reaches. absurd (writes f reaches))
 
-  pub is_whole : IsWhole [] p
+  pub is_whole : IsWhole signatures p
   is_whole = record {
-    functions = all_as (IsBareFunction (length p.functions)) (FunctionFits [] p) p.functions function_fits whole.functions;
+    functions = all_as (IsBareFunction (length p.functions)) (FunctionFits signatures p) p.functions function_fits whole.functions;
     globals = all_none (λ (g : Global). (g.size ≤ greatest_size) × (1 ≤ g.align)) p.globals whole.globals;
     texts = all_none (λ (text : List ℕ). length text + 1 ≤ greatest_size) p.texts whole.texts;
     effects = effects_are;
   }
 
 -- a project that is built of bare functions, as many as are counted, and of no globals and texts
-pub built : (count : ℕ) (p : Project) → All (IsBareFunction count) p.functions → length p.functions ≡ count → p.globals ≡ [] → p.texts ≡ [] → p.effects ≡ replicate count none → IsBareProject p × IsWhole [] p
+pub built : (count : ℕ) (p : Project) → All (IsBareFunction count) p.functions → length p.functions ≡ count → p.globals ≡ [] → p.texts ≡ [] → p.effects ≡ replicate count none → IsBareProject p × IsWhole signatures p
 built count p functions counted globals texts effects = (bare, is_whole p bare)
   where
     bare : IsBareProject p

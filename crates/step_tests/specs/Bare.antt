@@ -1,5 +1,5 @@
 -- Functions of one parameter of type int, which stands in their one register: they compute, compare, jump, call one another and return it.
-use Rattle.std.specs.Prelude.{ℕ, ◌≡◌, ◌<◌, pos, [], ◌∷◌, All, false, true, codes, length, None, Some}
+use Rattle.std.specs.Prelude.{ℕ, ◌≡◌, ◌<◌, pos, [], ◌∷◌, List, All, false, true, codes, length, None, Some}
 use Rattle.po_base.specs.declared.operand.Opnd.{Opnd}
 use Rattle.po_base.specs.declared.operand.Opnd.TheVariants as operand
 use Rattle.po_arith.specs.declared.int_type.IntType.{IntType}
@@ -16,6 +16,11 @@ use Rattle.po_ir.specs.declared.project.Function.{Function}
 use Rattle.po_ir.specs.declared.project.Project.{Project}
 use Rattle.po_ir.specs.Types.{is_comparison, is_shift, spelled}
 use Rattle.po_ir.specs.Valid.{EndsLast}
+use Rattle.po_ir.specs.Whole.{Signature}
+
+-- a library of one function, which nothing calls
+abbrev pub signatures : List Signature
+signatures = record { params = []; variadic = false; result = None; effects = record { frees = false; writes = false } } ∷ []
 
 abbrev pub int : IntType
 int = spelled 32 true

@@ -7,7 +7,7 @@ ghost use Rattle.po_ir.specs.Types.{is_comparison, is_shift};
 ghost use Rattle.po_ir.specs.Valid.{EndsLast};
 ghost use Rattle.po_ir.specs.Whole.{IsWhole};
 ghost use Rattle.po_step.specs.Stepping.{IsStateOf};
-ghost use Rattle.step_tests.specs.Bare.{CallsSome, IsBare, IsBareFunction, IsBareProject, IsSingle, int, none};
+ghost use Rattle.step_tests.specs.Bare.{signatures, CallsSome, IsBare, IsBareFunction, IsBareProject, IsSingle, int, none};
 
 use po_arith::{IntType, Target};
 use po_base::{FileNo, FunNo, List, Memory, NodeNo, Op, Opnd, RegNo, Spot, Text};
@@ -235,7 +235,7 @@ pub(crate) fn project(
     count: usize,
 ) -> Result<Option<Project>, Memory>
     requires { All (IsBareFunction count) functions }
-    ensures { IfOk result (λ found. IfSome found (λ p. IsBareProject p × IsWhole [] p)) }
+    ensures { IfOk result (λ found. IfSome found (λ p. IsBareProject p × IsWhole signatures p)) }
 {
     if functions.len() != count {
         return Ok(None);

@@ -1,4 +1,5 @@
 ghost use Rattle.std.specs.Prelude.{[]};
+ghost use Rattle.step_tests.specs.Bare.{signatures};
 
 use po_base::{LibNo, List, Memory, Opnd};
 use po_gen::Library;
@@ -9,7 +10,7 @@ use po_pred::Pred;
 use po_step::Outcomes;
 use std::alloc::Global;
 
-/// A library without functions.
+/// A library of one function, which nothing calls.
 pub(crate) struct Quiet;
 
 impl Library for Quiet {
@@ -27,7 +28,7 @@ impl Library for Quiet {
 }
 
 impl Outcomes for Quiet {
-    ghost signatures = { λ it. [] };
+    ghost signatures = { λ it. signatures };
 
     ghost outcomes = { λ it lib values before ending after. ⊥ };
 

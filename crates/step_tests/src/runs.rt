@@ -1,7 +1,7 @@
 ghost use Rattle.std.specs.Prelude.{[], All, ◌≡◌, IfOk};
 ghost use Rattle.po_ir.specs.Whole.{IsWhole};
 ghost use Rattle.po_step.specs.Stepping.{IsStateOf};
-ghost use Rattle.step_tests.specs.Bare.{IsBareFunction};
+ghost use Rattle.step_tests.specs.Bare.{signatures, IsBareFunction};
 
 use crate::building::{INT, ITSELF, add_function, add_node, call, compute, project, start};
 use crate::quiet::Quiet;
@@ -129,7 +129,7 @@ fn tell_end(out: &mut Out, step: Step) -> Result<(), Memory> {
 
 /// The places through which a run goes, twenty at most, and its end.
 fn told(alloc: Global, p: &Project, s: State) -> Result<Out, Memory>
-    requires whole { IsWhole [] p.now }
+    requires whole { IsWhole signatures p.now }
     requires belongs { IsStateOf p.now s }
 {
     let report = Report {
