@@ -1,9 +1,5 @@
 -- Functions of one parameter of type int, which stands in their one register: they compute, compare, jump, call one another and return it.
-<<<<<<< HEAD
 use Rattle.std.specs.Prelude.{ℕ, ◌≡◌, ◌<◌, pos, [], ◌∷◌, All, false, true, codes, length, None, Some, List}
-=======
-use Rattle.std.specs.Prelude.{ℕ, ◌≡◌, ◌<◌, pos, [], ◌∷◌, List, All, false, true, codes, length, None, Some}
->>>>>>> land-steptests
 use Rattle.po_base.specs.declared.operand.Opnd.{Opnd}
 use Rattle.po_base.specs.declared.operand.Opnd.TheVariants as operand
 use Rattle.po_arith.specs.declared.int_type.IntType.{IntType}
