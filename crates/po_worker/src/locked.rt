@@ -40,7 +40,7 @@ pub(crate) fn put_back_if_held<R: Rulebook, J: Naming<R::Pred, R::Rule, R::Table
 }
 
 /// Puts back every file that is held, as has to be done before `solve_alone` where workers ended early. It takes no memory.
-/// Time: the number of files, and for each that is held the number of the ledger's rest.
+/// Time: the number of files, and for each that is held the number of the obligations in its hand.
 pub fn put_back_all<R: Rulebook, J: Naming<R::Pred, R::Rule, R::Table>>(
     ledger: &mut Ledger<'_, R, J>,
 )
