@@ -1,0 +1,4 @@
+mod Blocks
+mod Enumerations
+mod Files
+mod Shown
