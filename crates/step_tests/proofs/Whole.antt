@@ -243,14 +243,14 @@ below_or_here zero (suc k) less = inl (omega arith)
 below_or_here (suc n) zero less = absurd (omega (arith, less))
 below_or_here (suc n) (suc k) less = elim (below_or_here n k (omega (arith, less))) [ inl l ↦ inl (omega (arith, l)) | inr e ↦ inr (omega (arith, e)) ]
 
-pub marks_more : (marks : List ℕ) (nodes : List Node) (k : ℕ) (x : Node) → AreMarksUpTo marks nodes k → slice_get nodes k ≡ Some x → FitsMarks marks k x.instr → AreMarksUpTo marks nodes (k + 1)
-marks_more marks nodes k x before here fits n node less at = by (below_or_here n k less)
+pub marks_more : (marks : List ℕ) (nodes : List Node) (k : ℕ) → AreMarksUpTo marks nodes k → MatchOption (slice_get nodes k) ⊥ (λ (x : Node). FitsMarks marks k x.instr) → AreMarksUpTo marks nodes (k + 1)
+marks_more marks nodes k before here n node less at = by (below_or_here n k less)
   where
     by : (n < k) ⊎ (n ≡ k) → FitsMarks marks n node.instr
     by (inl below) = before n node below at
     by (inr same) =
-        let is : x ≡ node = one_value (slice_get nodes k) x node here (subst (λ (j : ℕ). slice_get nodes j ≡ Some node) same at) in
-        subst (λ (j : ℕ). FitsMarks marks j node.instr) (sym same) (subst (λ (y : Node). FitsMarks marks k y.instr) is fits)
+        let there : slice_get nodes k ≡ Some node = subst (λ (j : ℕ). slice_get nodes j ≡ Some node) same at in
+        subst (λ (j : ℕ). FitsMarks marks j node.instr) (sym same) (subst (λ (o : Option Node). MatchOption o ⊥ (λ (x : Node). FitsMarks marks k x.instr)) there here)
 
 pub marks_all : (marks : List ℕ) (nodes : List Node) (k : ℕ) → is_marked marks 0 ≡ false → length nodes ≤ k → AreMarksUpTo marks nodes k → AreMarks marks nodes
 marks_all marks nodes k first far all = record { first = first; each = λ n node at. let within = slice_get_within nodes n node at in all n node (omega (arith, within, far)) at }

@@ -1,4 +1,4 @@
-ghost use Rattle.std.specs.Prelude.{◌≡◌, All, IfOk, IfSome, OnOk, true};
+ghost use Rattle.std.specs.Prelude.{◌≡◌, [], All, IfOk, IfSome, OnOk, length, true};
 ghost use Rattle.po_arith.specs.Types.{IsOfType};
 ghost use Rattle.po_ir.specs.Whole.{IsWhole};
 ghost use Rattle.po_step.specs.Stepping.{IsStateOf};
@@ -63,7 +63,10 @@ pub(crate) fn add_function(
 ) -> Result<(), Memory>
     ensures { OnOk result (All (IsBareFunction count) functions.old → All (IsBareFunction count) functions.new) }
 {
-    if !are_bare(nodes.as_slice(), count) || !are_marks(marks, nodes.as_slice()) {
+    if !are_bare(nodes.as_slice(), count) {
+        return Ok(());
+    }
+    if !are_marks(marks, nodes.as_slice()) {
         return Ok(());
     }
     let regs = registers(alloc)?;
@@ -93,6 +96,27 @@ pub(crate) fn add_function(
     Ok(())
 }
 
+fn are_counted(functions: &List<Function>, count: usize) -> bool
+    ensures { result ≡ true → length functions.now ≡ count }
+{
+    functions.len() == count
+}
+
+/// A project of these functions and of nothing else, without their effects.
+fn parts(alloc: Global, functions: List<Function>) -> Project
+    ensures { (result.functions ≡ functions) × (result.globals ≡ []) × (result.texts ≡ []) }
+{
+    Project {
+        files: List::new(alloc),
+        opaque: List::new(alloc),
+        functions,
+        globals: List::new(alloc),
+        texts: List::new(alloc),
+        effects: List::new(alloc),
+        target: Target::L64,
+    }
+}
+
 /// A project of these functions, which are so many.
 pub(crate) fn project(
     alloc: Global,
@@ -102,18 +126,10 @@ pub(crate) fn project(
     requires { All (IsBareFunction count) functions }
     ensures { IfOk result (λ found. IfSome found (λ p. IsBareProject p × IsWhole signatures p)) }
 {
-    if functions.len() != count {
+    if !are_counted(&functions, count) {
         return Ok(None);
     }
-    let mut project = Project {
-        files: List::new(alloc),
-        opaque: List::new(alloc),
-        functions,
-        globals: List::new(alloc),
-        texts: List::new(alloc),
-        effects: List::new(alloc),
-        target: Target::L64,
-    };
+    let mut project = parts(alloc, functions);
     let library = BTreeMap::new(alloc);
     let effects = function_effects(alloc, &library, &project)?;
     project.effects = effects;

@@ -1,4 +1,4 @@
-ghost use Rattle.std.specs.Prelude.{◌≡◌, ◌<◌, All, false, true, length};
+ghost use Rattle.std.specs.Prelude.{◌≡◌, ◌<◌, All, MatchOption, false, true, length, slice_get};
 ghost use Rattle.po_ir.specs.declared.graph.Node.{Node as GraphNode};
 ghost use Rattle.po_ir.specs.declared.instr.Ty.TheVariants.{Int};
 ghost use Rattle.po_ir.specs.Types.{is_comparison, is_shift};
@@ -191,6 +191,7 @@ fn stays_inside(marks: &[u8], n: usize, m: usize) -> bool
     true
 }
 
+/// Whether the marks are right at a node with this instruction.
 fn fits_marks(marks: &[u8], n: usize, instr: &Instr) -> bool
     requires { n < 1000 }
     ensures { result ≡ true → FitsMarks marks.now n instr.now }
@@ -205,25 +206,43 @@ fn fits_marks(marks: &[u8], n: usize, instr: &Instr) -> bool
         Instr::Jump { next } => stays_inside(marks, n, next.0 as usize),
         Instr::Return { .. } => true,
         Instr::Never { .. } => true,
-        _ => stays_inside(marks, n, n + 1),
+        Instr::Bin { .. } => stays_inside(marks, n, n + 1),
+        Instr::Call { .. } => stays_inside(marks, n, n + 1),
+        Instr::Load { .. } => stays_inside(marks, n, n + 1),
+        Instr::Store { .. } => stays_inside(marks, n, n + 1),
+        _ => false,
     }
+}
+
+fn fits_at(marks: &[u8], nodes: &[Node], n: usize) -> bool
+    requires { n < 1000 }
+    ensures { result ≡ true → MatchOption (slice_get nodes.now n) ⊥ (λ (x : GraphNode). FitsMarks marks.now n x.instr) }
+{
+    match nodes.get(n) {
+        None => false,
+        Some(node) => fits_marks(marks, n, &node.instr),
+    }
+}
+
+fn starts_outside(marks: &[u8]) -> bool
+    ensures { result ≡ true → bare.is_marked marks.now 0 ≡ false }
+{
+    !is_marked(marks, 0)
 }
 
 /// Whether the `+` of a text stand just where the slot is entered, on each way to the node.
 pub(crate) fn are_marks(marks: &[u8], nodes: &[Node]) -> bool
     ensures { result ≡ true → AreMarks marks.now nodes.now }
 {
-    if is_marked(marks, 0) || nodes.len() > 1000 {
+    if !starts_outside(marks) {
+        return false;
+    }
+    if nodes.len() > 1000 {
         return false;
     }
     for n in 0..nodes.len() {
-        match nodes.get(n) {
-            None => return false,
-            Some(node) => {
-                if !fits_marks(marks, n, &node.instr) {
-                    return false;
-                }
-            }
+        if !fits_at(marks, nodes, n) {
+            return false;
         }
     }
     true

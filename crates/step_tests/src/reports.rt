@@ -34,7 +34,6 @@ pub(crate) fn empty(alloc: Global) -> Report<Pred, Rule>
     }
 }
 
-#[tactic(auto, using(crate::proofs::Supported::on_parameter_more))]
 fn add_line(
     lines: &mut List<(Obl<Pred>, Verdict<Pred, Rule>)>,
     f: u32,
@@ -47,7 +46,8 @@ fn add_line(
 {
     let fun = FunNo(f);
     let node = NodeNo(n);
-    lines.push((Obl { fun, node, cause }, verdict))
+    lines.push((Obl { fun, node, cause }, verdict))?;
+    Ok(())
 }
 
 /// The call at this node has to keep what function 2 assumes.
@@ -63,7 +63,6 @@ fn add_support(
 }
 
 /// A report in which function 2 assumes that its argument isn't 0, so that the three calls of it have to keep this.
-#[tactic(auto, using(crate::proofs::Supported::on_parameter_none))]
 pub(crate) fn assuming(alloc: Global) -> Result<Report<Pred, Rule>, Memory>
     ensures { IfOk result (λ r. AreOnParameter r.lines) }
 {
@@ -148,7 +147,14 @@ fn asks(alloc: Global, f: u32, n: u32, expected: &[u8]) -> Result<bool, Memory> 
 fn at_a_call_what_supports_comes_last_with_the_argument_put_in(
     rt: HostRuntime,
 ) -> Result<(), Fail> {
-    assert!(rt; asks(rt.alloc(), 13, 1, b"0: reg_set(v); nonzero($0): nonzero(v); ")?);
+    assert!(rt;
+        asks(
+            rt.alloc(),
+            13,
+            1,
+            b"0: reg_set(v); nonzero($0): nonzero(v); "
+        )?
+    );
     assert!(rt; asks(rt.alloc(), 15, 0, b"nonzero($0): nonzero(0); ")?);
     Ok(())
 }

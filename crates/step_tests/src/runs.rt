@@ -73,12 +73,7 @@ fn tell_end(out: &mut Out, step: Step) -> Result<(), Memory> {
 }
 
 /// The places through which a run goes, twenty at most, and its end.
-fn told(
-    alloc: Global,
-    p: &Project,
-    report: &Report<Pred, Rule>,
-    s: State,
-) -> Result<Out, Memory>
+fn told(alloc: Global, p: &Project, report: &Report<Pred, Rule>, s: State) -> Result<Out, Memory>
     requires whole { IsWhole signatures p.now }
     requires supports { SupportsFit p.now report.now.lines }
     requires belongs { IsStateOf p.now s }
