@@ -164,18 +164,8 @@ fn elsewhere_just_the_primary_obligations_are_listed(rt: HostRuntime) -> Result<
     assert!(rt; asks(rt.alloc(), 13, 0, b"0: no_over(sub,%0,1); ")?);
     assert!(rt; asks(rt.alloc(), 2, 0, b"0: nonzero(%0); 1: no_over(div,1,%0); ")?);
     assert!(rt; asks(rt.alloc(), 13, 2, b"0: reg_set(v); ")?);
-    Ok(())
-}
-
-#[test]
-fn a_load_asks_for_its_pointer_first_and_for_its_bytes_last(rt: HostRuntime) -> Result<(), Fail> {
-    assert!(rt;
-        asks(
-            rt.alloc(),
-            8,
-            2,
-            b"0: reg_set(p); 1: not_null(p); 2: live(p); 3: span(p,0,4); 4: aligned(p,4); 5: filled(p,0,4); "
-        )?
-    );
+    let load =
+        b"0: reg_set(p); 1: not_null(p); 2: live(p); 3: span(p,0,4); 4: aligned(p,4); 5: filled(p,0,4); ";
+    assert!(rt; asks(rt.alloc(), 8, 2, load)?);
     Ok(())
 }

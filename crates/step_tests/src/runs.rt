@@ -152,14 +152,11 @@ fn a_run_that_jumps_back_goes_on_without_an_end(rt: HostRuntime) -> Result<(), F
 }
 
 #[test]
-fn a_division_is_violated_just_by_the_argument_0(rt: HostRuntime) -> Result<(), Fail> {
+fn a_run_is_violated_by_the_divisor_0_and_where_it_must_not_come(
+    rt: HostRuntime,
+) -> Result<(), Fail> {
     assert!(rt; goes(rt.alloc(), 2, 0, b"2.0=0 violated 2.0 0")?);
     assert!(rt; goes(rt.alloc(), 2, 2, b"2.0=2 2.1=0 ended")?);
-    Ok(())
-}
-
-#[test]
-fn a_run_is_violated_at_a_node_that_is_never_to_be_reached(rt: HostRuntime) -> Result<(), Fail> {
     assert!(rt; goes(rt.alloc(), 3, 5, b"3.0=5 3.1=5 violated 3.1 0")?);
     Ok(())
 }
@@ -179,38 +176,6 @@ fn a_slot_in_a_loop_is_a_new_block_each_time_and_gives_what_was_stored(
 }
 
 #[test]
-fn a_slot_that_is_read_before_a_store_is_not_filled(rt: HostRuntime) -> Result<(), Fail> {
-    assert!(rt; goes(rt.alloc(), 8, 9, b"8.0=9 8.1=9+ 8.2=9+ violated 8.2 5")?);
-    Ok(())
-}
-
-#[test]
-fn a_slot_that_is_read_after_it_was_left_is_not_alive(rt: HostRuntime) -> Result<(), Fail> {
-    assert!(rt;
-        goes(
-            rt.alloc(),
-            9,
-            9,
-            b"9.0=9 9.1=9+ 9.2=9+ 9.3=9+ 9.4=9- violated 9.4 2"
-        )?
-    );
-    Ok(())
-}
-
-#[test]
-fn a_slot_that_is_entered_anew_is_not_that_which_ended(rt: HostRuntime) -> Result<(), Fail> {
-    assert!(rt;
-        goes(
-            rt.alloc(),
-            10,
-            9,
-            b"10.0=9 10.1=9+ 10.2=9+ 10.3=9- 10.4=9-+ violated 10.4 2"
-        )?
-    );
-    Ok(())
-}
-
-#[test]
 fn each_frame_has_a_slot_of_its_own_that_ends_with_it(rt: HostRuntime) -> Result<(), Fail> {
     let down = b"11.0=1 11.1=1+ 11.2=1+ 11.3=1+ 11.4=1+ 11.5=0+ ";
     let within = b"11.0=0+ 11.1=0++ 11.2=0++ 11.3=0++ 11.6=0++ 11.7=0++ ";
@@ -223,14 +188,25 @@ fn each_frame_has_a_slot_of_its_own_that_ends_with_it(rt: HostRuntime) -> Result
 }
 
 #[test]
-fn a_pointer_without_a_value_is_asked_for_first(rt: HostRuntime) -> Result<(), Fail> {
+fn a_slot_is_read_only_behind_a_store_and_before_its_end(rt: HostRuntime) -> Result<(), Fail> {
+    let before = b"8.0=9 8.1=9+ 8.2=9+ violated 8.2 5";
+    assert!(rt; goes(rt.alloc(), 8, 9, before)?);
+    let after = b"9.0=9 9.1=9+ 9.2=9+ 9.3=9+ 9.4=9- violated 9.4 2";
+    assert!(rt; goes(rt.alloc(), 9, 9, after)?);
+    let anew = b"10.0=9 10.1=9+ 10.2=9+ 10.3=9- 10.4=9-+ violated 10.4 2";
+    assert!(rt; goes(rt.alloc(), 10, 9, anew)?);
     assert!(rt; goes(rt.alloc(), 12, 9, b"12.0=9 violated 12.0 0")?);
     Ok(())
 }
 
 #[test]
-fn what_a_function_assumes_is_violated_at_the_call(rt: HostRuntime) -> Result<(), Fail> {
+fn what_a_function_assumes_is_violated_at_the_call_behind_the_primary_obligations(
+    rt: HostRuntime,
+) -> Result<(), Fail> {
     assert!(rt; goes_assuming(rt.alloc(), 13, 1, b"13.0=1 13.1=1,0 violated 13.1 1")?);
+    let kept = b"13.0=3 13.1=3,2 2.0=2 2.1=0 13.2=3,0 ended";
+    assert!(rt; goes_assuming(rt.alloc(), 13, 3, kept)?);
+    assert!(rt; goes_assuming(rt.alloc(), 14, 5, b"14.0=5 violated 14.0 0")?);
     assert!(rt; goes_assuming(rt.alloc(), 15, 5, b"15.0=5 violated 15.0 0")?);
     Ok(())
 }
@@ -239,24 +215,5 @@ fn what_a_function_assumes_is_violated_at_the_call(rt: HostRuntime) -> Result<()
 fn what_is_not_assumed_is_violated_in_the_called_function(rt: HostRuntime) -> Result<(), Fail> {
     assert!(rt; goes(rt.alloc(), 13, 1, b"13.0=1 13.1=1,0 2.0=0 violated 2.0 0")?);
     assert!(rt; goes(rt.alloc(), 15, 5, b"15.0=5 2.0=0 violated 2.0 0")?);
-    Ok(())
-}
-
-#[test]
-fn a_call_that_keeps_what_is_assumed_goes_on(rt: HostRuntime) -> Result<(), Fail> {
-    assert!(rt;
-        goes_assuming(
-            rt.alloc(),
-            13,
-            3,
-            b"13.0=3 13.1=3,2 2.0=2 2.1=0 13.2=3,0 ended"
-        )?
-    );
-    Ok(())
-}
-
-#[test]
-fn a_primary_obligation_is_violated_before_a_supporting_one(rt: HostRuntime) -> Result<(), Fail> {
-    assert!(rt; goes_assuming(rt.alloc(), 14, 5, b"14.0=5 violated 14.0 0")?);
     Ok(())
 }
