@@ -2,8 +2,14 @@
 #![tactic(auto)]
 
 #[cfg(test)]
+mod bodies;
+#[cfg(test)]
 mod building;
 #[cfg(test)]
+mod checking;
+#[cfg(test)]
 mod quiet;
+#[cfg(test)]
+mod reports;
 #[cfg(test)]
 mod runs;

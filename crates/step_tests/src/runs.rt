@@ -1,108 +1,53 @@
-ghost use Rattle.std.specs.Prelude.{[], All, ◌≡◌, IfOk};
 ghost use Rattle.po_ir.specs.Whole.{IsWhole};
 ghost use Rattle.po_step.specs.Stepping.{IsStateOf};
-ghost use Rattle.step_tests.specs.Bare.{signatures, IsBareFunction};
+ghost use Rattle.po_step.specs.Supporting.{SupportsFit};
+ghost use Rattle.step_tests.specs.Bare.{signatures};
 
-use crate::building::{INT, ITSELF, add_function, add_node, call, compute, project, start};
+use crate::bodies::functions;
+use crate::building::{project, start};
 use crate::quiet::Quiet;
-use po_base::{List, Memory, NodeNo, Op, Opnd, Out};
+use crate::reports::{assuming, empty};
+use po_base::{Memory, Out};
 use po_core::Report;
-use po_ir::{Function, Instr, Node, Project, Reason};
+use po_ir::Project;
 use po_meaning::State;
-use po_memory::Value;
+use po_memory::{Frame, Memory2, Value};
+use po_pred::{Pred, Rule};
 use po_step::{Step, step_once};
 use std::alloc::Global;
 use std::test::Fail;
 
-/// Function 0 gives what function 1 gives, which counts down to 0; function 2 divides 1 by its argument; function 3 jumps to where it
-/// must not come, and function 4 back for ever; function 5 gives what function 0 gives.
-fn functions(alloc: Global) -> Result<List<Function>, Memory>
-    ensures { IfOk result (λ list. All (IsBareFunction 6) list) }
-{
-    let mut functions = List::new(alloc);
-    add_function(alloc, &mut functions, 6, passing_on(alloc, 1)?)?;
-    add_function(alloc, &mut functions, 6, counting_down(alloc)?)?;
-    add_function(alloc, &mut functions, 6, dividing(alloc)?)?;
-    add_function(alloc, &mut functions, 6, ending(alloc)?)?;
-    add_function(alloc, &mut functions, 6, jumping_back(alloc)?)?;
-    add_function(alloc, &mut functions, 6, passing_on(alloc, 0)?)?;
-    Ok(functions)
+/// Writes the number in a register behind a sign, where there is one.
+fn tell_number(out: &mut Out, sign: &[u8], frame: &Frame, register: usize) -> Result<(), Memory> {
+    if let Some(Some(Value::Number(v))) = frame.regs.get(register) {
+        out.add(sign)?;
+        out.add_whole(*v)?;
+    }
+    Ok(())
 }
 
-fn passing_on(alloc: Global, n: u32) -> Result<List<Node>, Memory> {
-    let mut nodes = List::new(alloc);
-    add_node(alloc, &mut nodes, call(alloc, n)?)?;
-    add_node(
-        alloc,
-        &mut nodes,
-        Instr::Return {
-            value: Some(ITSELF),
-        },
-    )?;
-    Ok(nodes)
+/// Writes a `+` for each block that is alive and a `-` for each that ended.
+fn tell_blocks(out: &mut Out, m: &Memory2) -> Result<(), Memory> {
+    for block in m.blocks.as_slice() {
+        if block.alive {
+            out.add(b"+")?;
+        } else {
+            out.add(b"-")?;
+        }
+    }
+    Ok(())
 }
 
-fn counting_down(alloc: Global) -> Result<List<Node>, Memory> {
-    let mut nodes = List::new(alloc);
-    let again = Instr::If {
-        op: Op::Ge,
-        ty: INT,
-        a: ITSELF,
-        b: Opnd::Num(1),
-        yes: NodeNo(1),
-        no: NodeNo(3),
-    };
-    add_node(alloc, &mut nodes, again)?;
-    add_node(alloc, &mut nodes, compute(Op::Sub, ITSELF, Opnd::Num(1)))?;
-    add_node(alloc, &mut nodes, Instr::Jump { next: NodeNo(0) })?;
-    add_node(
-        alloc,
-        &mut nodes,
-        Instr::Return {
-            value: Some(ITSELF),
-        },
-    )?;
-    Ok(nodes)
-}
-
-fn dividing(alloc: Global) -> Result<List<Node>, Memory> {
-    let mut nodes = List::new(alloc);
-    add_node(alloc, &mut nodes, compute(Op::Div, Opnd::Num(1), ITSELF))?;
-    add_node(
-        alloc,
-        &mut nodes,
-        Instr::Return {
-            value: Some(ITSELF),
-        },
-    )?;
-    Ok(nodes)
-}
-
-fn ending(alloc: Global) -> Result<List<Node>, Memory> {
-    let mut nodes = List::new(alloc);
-    add_node(alloc, &mut nodes, Instr::Jump { next: NodeNo(1) })?;
-    let reason = Reason::End;
-    add_node(alloc, &mut nodes, Instr::Never { reason })?;
-    Ok(nodes)
-}
-
-fn jumping_back(alloc: Global) -> Result<List<Node>, Memory> {
-    let mut nodes = List::new(alloc);
-    add_node(alloc, &mut nodes, Instr::Jump { next: NodeNo(0) })?;
-    Ok(nodes)
-}
-
-/// Writes the function and the node at which the running frame stands, and the number in its register.
+/// Writes the function and the node at which the running frame stands, the numbers in its parameter and in its variable, and the blocks.
 fn tell_place(out: &mut Out, s: &State) -> Result<(), Memory> {
     let frames = s.frames.as_slice();
     if let Some(top) = frames.last() {
         out.add_number(top.function.0)?;
         out.add(b".")?;
         out.add_number(top.node.0)?;
-        if let Some(Some(Value::Number(v))) = top.regs.get(0) {
-            out.add(b"=")?;
-            out.add_whole(*v)?;
-        }
+        tell_number(out, b"=", top, 0)?;
+        tell_number(out, b",", top, 1)?;
+        tell_blocks(out, &s.memory)?;
         out.add(b" ")?;
     }
     Ok(())
@@ -128,19 +73,16 @@ fn tell_end(out: &mut Out, step: Step) -> Result<(), Memory> {
 }
 
 /// The places through which a run goes, twenty at most, and its end.
-fn told(alloc: Global, p: &Project, s: State) -> Result<Out, Memory>
+fn told(alloc: Global, p: &Project, report: &Report<Pred, Rule>, s: State) -> Result<Out, Memory>
     requires whole { IsWhole signatures p.now }
+    requires supports { SupportsFit p.now report.now.lines }
     requires belongs { IsStateOf p.now s }
 {
-    let report = Report {
-        lines: List::new(alloc),
-        assumptions: List::new(alloc),
-    };
     let mut out = Out::new(alloc);
     let mut s = s;
     for _ in 0..20 {
         tell_place(&mut out, &s)?;
-        let step = step_once(alloc, &Quiet, p, &report, &mut s)?;
+        let step = step_once(alloc, &Quiet, p, report, &mut s)?;
         if step != Step::Next {
             tell_end(&mut out, step)?;
             return Ok(out);
@@ -149,13 +91,26 @@ fn told(alloc: Global, p: &Project, s: State) -> Result<Out, Memory>
     Ok(out)
 }
 
-/// Whether the run that starts at the function with the argument goes so.
+/// Whether the run that starts at the function with the argument goes so, where nothing is assumed.
+#[tactic(auto, using(crate::proofs::Supported::supports_none))]
 fn goes(alloc: Global, n: u32, argument: i128, expected: &[u8]) -> Result<bool, Memory> {
-    match project(alloc, functions(alloc)?, 6)? {
+    match project(alloc, functions(alloc)?, 16)? {
         None => Ok(false),
         Some(p) => match start(alloc, &p, n, argument)? {
             None => Ok(false),
-            Some(s) => Ok(told(alloc, &p, s)?.bytes() == expected),
+            Some(s) => Ok(told(alloc, &p, &empty(alloc), s)?.bytes() == expected),
+        },
+    }
+}
+
+/// Whether it goes so where function 2 assumes that its argument isn't 0.
+#[tactic(auto, using(crate::proofs::Supported::supports_fit))]
+fn goes_assuming(alloc: Global, n: u32, argument: i128, expected: &[u8]) -> Result<bool, Memory> {
+    match project(alloc, functions(alloc)?, 16)? {
+        None => Ok(false),
+        Some(p) => match start(alloc, &p, n, argument)? {
+            None => Ok(false),
+            Some(s) => Ok(told(alloc, &p, &assuming(alloc)?, s)?.bytes() == expected),
         },
     }
 }
@@ -197,14 +152,68 @@ fn a_run_that_jumps_back_goes_on_without_an_end(rt: HostRuntime) -> Result<(), F
 }
 
 #[test]
-fn a_division_is_violated_just_by_the_argument_0(rt: HostRuntime) -> Result<(), Fail> {
+fn a_run_is_violated_by_the_divisor_0_and_where_it_must_not_come(
+    rt: HostRuntime,
+) -> Result<(), Fail> {
     assert!(rt; goes(rt.alloc(), 2, 0, b"2.0=0 violated 2.0 0")?);
     assert!(rt; goes(rt.alloc(), 2, 2, b"2.0=2 2.1=0 ended")?);
+    assert!(rt; goes(rt.alloc(), 3, 5, b"3.0=5 3.1=5 violated 3.1 0")?);
     Ok(())
 }
 
 #[test]
-fn a_run_is_violated_at_a_node_that_is_never_to_be_reached(rt: HostRuntime) -> Result<(), Fail> {
-    assert!(rt; goes(rt.alloc(), 3, 5, b"3.0=5 3.1=5 violated 3.1 0")?);
+fn a_slot_in_a_loop_is_a_new_block_each_time_and_gives_what_was_stored(
+    rt: HostRuntime,
+) -> Result<(), Fail> {
+    let first = b"6.0=2 7.0=2 7.1=2 7.2=2+ 7.3=2+ 7.4=2+ 7.5=2,2+ 7.6=2,2- 7.7=1,2- ";
+    let second = b"7.0=1,2- 7.1=1,2- 7.2=1,2-+ 7.3=1,2-+ 7.4=1,2-+ 7.5=1,1-+ 7.6=1,1-- 7.7=0,1-- ";
+    let mut expected = Out::new(rt.alloc());
+    expected.add(first)?;
+    expected.add(second)?;
+    expected.add(b"7.0=0,1-- 7.8=0,1-- 6.1=0-- ended")?;
+    assert!(rt; goes(rt.alloc(), 6, 2, expected.bytes())?);
+    Ok(())
+}
+
+#[test]
+fn each_frame_has_a_slot_of_its_own_that_ends_with_it(rt: HostRuntime) -> Result<(), Fail> {
+    let down = b"11.0=1 11.1=1+ 11.2=1+ 11.3=1+ 11.4=1+ 11.5=0+ ";
+    let within = b"11.0=0+ 11.1=0++ 11.2=0++ 11.3=0++ 11.6=0++ 11.7=0++ ";
+    let mut expected = Out::new(rt.alloc());
+    expected.add(down)?;
+    expected.add(within)?;
+    expected.add(b"11.6=0+- 11.7=1+- ended")?;
+    assert!(rt; goes(rt.alloc(), 11, 1, expected.bytes())?);
+    Ok(())
+}
+
+#[test]
+fn a_slot_is_read_only_behind_a_store_and_before_its_end(rt: HostRuntime) -> Result<(), Fail> {
+    let before = b"8.0=9 8.1=9+ 8.2=9+ violated 8.2 5";
+    assert!(rt; goes(rt.alloc(), 8, 9, before)?);
+    let after = b"9.0=9 9.1=9+ 9.2=9+ 9.3=9+ 9.4=9- violated 9.4 2";
+    assert!(rt; goes(rt.alloc(), 9, 9, after)?);
+    let anew = b"10.0=9 10.1=9+ 10.2=9+ 10.3=9- 10.4=9-+ violated 10.4 2";
+    assert!(rt; goes(rt.alloc(), 10, 9, anew)?);
+    assert!(rt; goes(rt.alloc(), 12, 9, b"12.0=9 violated 12.0 0")?);
+    Ok(())
+}
+
+#[test]
+fn what_a_function_assumes_is_violated_at_the_call_behind_the_primary_obligations(
+    rt: HostRuntime,
+) -> Result<(), Fail> {
+    assert!(rt; goes_assuming(rt.alloc(), 13, 1, b"13.0=1 13.1=1,0 violated 13.1 1")?);
+    let kept = b"13.0=3 13.1=3,2 2.0=2 2.1=0 13.2=3,0 ended";
+    assert!(rt; goes_assuming(rt.alloc(), 13, 3, kept)?);
+    assert!(rt; goes_assuming(rt.alloc(), 14, 5, b"14.0=5 violated 14.0 0")?);
+    assert!(rt; goes_assuming(rt.alloc(), 15, 5, b"15.0=5 violated 15.0 0")?);
+    Ok(())
+}
+
+#[test]
+fn what_is_not_assumed_is_violated_in_the_called_function(rt: HostRuntime) -> Result<(), Fail> {
+    assert!(rt; goes(rt.alloc(), 13, 1, b"13.0=1 13.1=1,0 2.0=0 violated 2.0 0")?);
+    assert!(rt; goes(rt.alloc(), 15, 5, b"15.0=5 2.0=0 violated 2.0 0")?);
     Ok(())
 }
