@@ -1,0 +1,5 @@
+pub mod Agree
+pub mod Expressions
+pub mod Statements
+pub mod Standing
+pub mod Naming

@@ -1,0 +1,9 @@
+//! Which tokens of a tree are the heads of its expressions, the keywords of its statements, the Words of its declarators and the braces
+//! that close its blocks.
+#![tactic(auto)]
+
+mod laws;
+
+pub use laws::{
+    heads_are_counted, heads_stand, keywords_are_counted, tokens_are_printed, words_stand,
+};
