@@ -1,0 +1,10 @@
+pub mod Layers
+pub mod Fronts
+pub mod Ended
+pub mod Behind
+pub mod One
+pub mod Values
+pub mod Braces
+pub mod Leading
+pub mod Ranges
+pub mod Ends
