@@ -1,0 +1,12 @@
+pub mod Leading
+pub mod Standing
+pub mod Ends
+pub mod Words
+pub mod Naming
+pub mod Constants
+pub mod Stars
+pub mod Sizes
+pub mod Enumerators
+pub mod Specifiers
+pub mod Printed
+pub mod PrintedSpecifiers
