@@ -6,6 +6,8 @@ use Rattle.po_base.specs.declared.token.TokenKind.TheVariants as k
 use Rattle.po_tree.specs.declared.expression.Exp.{Exp}
 use Rattle.po_tree.specs.Signs.{Sign, word, punct, comma, equals, brace_end}
 use Rattle.po_tree.specs.Declarations.{without}
+use Rattle.po_tree.specs.Words.{IsName}
+use Rattle.po_exp_read.specs.OneSpecifier.{BeginsName}
 use Rattle.po_exp_read.specs.TypeWords.{Begins}
 use Rattle.po_decl_parts.specs.Constants.{ConstantStands}
 use Rattle.po_decl_parts.specs.Enumerators.{EnumeratorRead, plain, valued, EnumeratorsRead, last, last_comma, further}
@@ -88,6 +90,28 @@ closed_by_brace {types = types} {ts = ts} {item = item} left w q = last types it
 pub closed_by_comma : {types : List (List ℕ)} {ts us : List Sign} {item : List ℕ × Option Exp} (behind left : List Sign) → EnumeratorRead types ts item us → us ≡ comma ∷ behind → behind ≡ brace_end ∷ left →
     EnumeratorsRead types ts (item ∷ []) true (without item.0 types) left
 closed_by_comma {types = types} {ts = ts} {item = item} behind left w q r = last_comma types item ts left (subst (EnumeratorRead types ts item) (q ∙ ap (λ v. comma ∷ v) r) w)
+
+-- one enumerator at a place
+
+pub enumerator_name : {types : List (List ℕ)} {ts us : List Sign} {item : List ℕ × Option Exp} → EnumeratorRead types ts item us → BeginsName item.0 ts
+enumerator_name (plain name ts is none) = (is, refl)
+enumerator_name (valued name x ts us is w) = (is, refl)
+
+pub plain_by : {types : List (List ℕ)} {ts us : List Sign} {name : List ℕ} → IsName name × (ts ≡ word name ∷ us) → (Begins equals us → ⊥) → EnumeratorRead types ts (name, None) us
+plain_by {types = types} {us = us} {name = name} h none = subst (λ v. EnumeratorRead types v (name, None) us) (sym h.1) (plain name us h.0 none)
+
+pub valued_by : {types : List (List ℕ)} {ts vs left : List Sign} {name : List ℕ} {x : Exp} (us : List Sign) → IsName name × (ts ≡ word name ∷ us) → us ≡ equals ∷ vs → ConstantStands types vs x left → EnumeratorRead types ts (name, Some x) left
+valued_by {types = types} {vs = vs} {left = left} {name = name} {x = x} us h q w =
+    subst (λ v. EnumeratorRead types v (name, Some x) left) (sym (h.1 ∙ ap (λ v. word name ∷ v) q)) (valued name x vs left h.0 w)
+
+pub no_value : {types : List (List ℕ)} {ts vs : List Sign} {name : List ℕ} (us : List Sign) → ts ≡ word name ∷ us → us ≡ equals ∷ vs → ((x : Exp) (left : List Sign) → ConstantStands types vs x left → ⊥) →
+    (item : List ℕ × Option Exp) (left : List Sign) → EnumeratorRead types ts item left → ⊥
+no_value us q r none item left (plain own ts is no) = let p = same_word q in no (subst (Begins equals) (sym (p.1 ∙ r)) refl)
+no_value {vs = vs} us q r none item left (valued own x ts left' is w) =
+    let p = same_word q in
+    let both = p.1 ∙ r in
+    let rests : ts ≡ vs = cc in
+    none x left' (constant_along rests w)
 
 -- what all enumerators come to
 pub record Same (items others : List (List ℕ × Option Exp)) (more more' : Bool) (types types' : List (List ℕ)) (us vs : List Sign) : Type 0 where

@@ -81,3 +81,6 @@ module _ {types : List (List ℕ)} where
       let p = size_inside q full w in
       let s = constant_same at (bracketed p.2 p.4) in
       none (subst (Begins bracket_end) (sym s.1) refl)
+
+  pub closed_by : {signs left : List Sign} {x : Exp} (rest : List Sign) → left ≡ bracket_end ∷ rest → ConstantStands types signs x left → StandsAt 2 types signs x (bracket_end ∷ rest)
+  closed_by {signs = signs} {x = x} rest q w = subst (λ v. StandsAt 2 types signs x v) q w.stands

@@ -9,9 +9,10 @@ use Rattle.po_tree.specs.declared.expression.Specifier.TheVariants as sp
 use Rattle.po_tree.specs.Signs.{Sign, word, punct, brace}
 use Rattle.po_tree.specs.Words.{IsName, storage_classes, type_words, qualifiers}
 use Rattle.po_tree.specs.Expressions.{Typed, untyped, TakesWord}
-use Rattle.po_exp_read.specs.TypeWords.{Begins}
+use Rattle.po_exp_read.specs.OneSpecifier.{BeginsName}
+use Rattle.po_exp_read.specs.TypeWords.{Begins, BeginsWord}
 use Rattle.po_decl_parts.specs.Enumerators.{EnumeratorsRead}
-use Rattle.po_decl_parts.specs.Specifiers.{TagRead, no_tag, tagged, Opens, SpecifierRead, storage_class, inline_word, qualifier, type_word, typedef_name, struct_tag, enum_tag, enum_body, SpecifierStands, IsSpecifierWord, by_storage_class, by_inline, by_qualifier, by_type}
+use Rattle.po_decl_parts.specs.Specifiers.{TagRead, no_tag, tagged, NoTag, Opens, SpecifierRead, storage_class, inline_word, qualifier, type_word, typedef_name, struct_tag, enum_tag, enum_body, SpecifierStands, IsSpecifierWord, by_storage_class, by_inline, by_qualifier, by_type}
 use Rattle.po_decl_parts.proofs.Words.{class_word, class_qualifier, class_type_word, class_struct, class_enum, class_storage, class_inline, class_name}
 use Rattle.po_decl_parts.proofs.Standing.{same_word}
 use Rattle.po_decl_parts.proofs.Enumerators.{items_along}
@@ -95,10 +96,6 @@ no_name none no_enum no_struct no_type (struct_tag free types tag us q is r no) 
 no_name none no_enum no_struct no_type (enum_tag free types tag us q is r no) = no_enum q
 no_name none no_enum no_struct no_type (enum_body free more types types' tag items us vs q w v) = no_enum q
 
--- no tag stands alone
-abbrev pub NoTag : List Sign → Type 0
-NoTag ts = (tag : List ℕ) (us : List Sign) → IsName tag → ts ≡ word tag ∷ us → (Begins brace us → ⊥) → ⊥
-
 pub no_struct : {outer free free' : Bool} {text : List ℕ} {ts us : List Sign} {types types' : List (List ℕ)} {seen seen' : Typed} {spec : Specifier} →
     text ≡ codes "struct" → NoTag ts → SpecifierRead outer text ts free types seen spec free' types' seen' us → ⊥
 no_struct h none (struct_tag free types tag us q is r no) = none tag us is r no
@@ -154,3 +151,58 @@ pub stands_one : {outer free f g : Bool} {types a b : List (List ℕ)} {seen s t
 stands_one {outer = outer} {free = free} {g = g} {types = types} {b = b} {seen = seen} {t = t} {vs = vs} {other = other} w v =
     let p = same_word (sym v.first ∙ w.first) in
     specifier_same w.reads (subst (λ z. SpecifierRead outer z w.behind free types seen other g b t vs) p.0 (subst (λ z. SpecifierRead outer v.text z free types seen other g b t vs) p.1 v.reads))
+
+-- a word that is none of these is no specifier by itself
+pub specifier_word : {text : List ℕ} → (Contains qualifiers text → ⊥) → (Contains storage_classes text → ⊥) → (text ≡ codes "inline" → ⊥) → (Contains type_words text → ⊥) → IsSpecifierWord text → ⊥
+specifier_word a b c d (by_storage_class h) = b h
+specifier_word a b c d (by_inline q) = c q
+specifier_word a b c d (by_qualifier h) = a h
+specifier_word a b c d (by_type h) = d h
+
+-- no body opens where neither a brace nor a name stands, or no brace behind the name
+pub tag_none : {ts : List Sign} → (Begins brace ts → ⊥) → ((name : List ℕ) → BeginsName name ts → ⊥) → (tag : Option (List ℕ)) (us : List Sign) → TagRead ts tag us → ⊥
+tag_none none no tag us (no_tag us' q) = none (subst (Begins brace) (sym q) refl)
+tag_none none no tag us (tagged name us' is q) = no name (is, subst (Begins (word name)) (sym q) refl)
+
+pub tag_open : {ts vs : List Sign} {name : List ℕ} → ts ≡ word name ∷ vs → (Begins brace vs → ⊥) → (tag : Option (List ℕ)) (us : List Sign) → TagRead ts tag us → ⊥
+tag_open q none tag us w = tag_closed q none w
+
+pub opens_word : {signs us : List Sign} {tag : Option (List ℕ)} → Opens signs tag us → BeginsWord signs
+opens_word w = subst BeginsWord (sym w.first) refl
+
+pub opens_struct : {signs ts us : List Sign} {text : List ℕ} {tag : Option (List ℕ)} → signs ≡ word text ∷ ts → Opens signs tag us → (text ≡ codes "struct") × TagRead ts tag us
+opens_struct {us = us} {tag = tag} q w = let p = same_word (sym q ∙ w.first) in (p.0, subst (λ v. TagRead v tag us) (sym p.1) w.named)
+
+pub stands_word : {outer free free' : Bool} {types types' : List (List ℕ)} {seen seen' : Typed} {signs us : List Sign} {spec : Specifier} →
+    SpecifierStands outer free types seen signs spec free' types' seen' us → BeginsWord signs
+stands_word w = subst BeginsWord (sym w.first) refl
+
+-- what stands behind the word at the front
+pub stands_reads : {outer free free' : Bool} {types types' : List (List ℕ)} {seen seen' : Typed} {signs ts us : List Sign} {text : List ℕ} {spec : Specifier} →
+    signs ≡ word text ∷ ts → SpecifierStands outer free types seen signs spec free' types' seen' us → SpecifierRead outer text ts free types seen spec free' types' seen' us
+stands_reads {outer = outer} {free = free} {free' = free'} {types = types} {types' = types'} {seen = seen} {seen' = seen'} {text = text} {us = us} {spec = spec} q w =
+    let p = same_word (sym w.first ∙ q) in
+    subst (λ z. SpecifierRead outer text z free types seen spec free' types' seen' us) p.1
+    (subst (λ z. SpecifierRead outer z w.behind free types seen spec free' types' seen' us) p.0 w.reads)
+
+pub tag_by : {ts vs us : List Sign} {name : List ℕ} → IsName name × (ts ≡ word name ∷ vs) → vs ≡ brace ∷ us → TagRead ts (Some name) us
+tag_by {us = us} {name = name} h q = tagged name us h.0 (h.1 ∙ ap (λ v. word name ∷ v) q)
+
+pub opens_by : {signs ts us : List Sign} {text : List ℕ} {tag : Option (List ℕ)} → signs ≡ word text ∷ ts → text ≡ codes "struct" → TagRead ts tag us → Opens signs tag us
+opens_by {ts = ts} q is w = record { behind = ts; first = q ∙ ap (λ v. word v ∷ ts) is; named = w }
+
+pub no_lone_tag : {ts : List Sign} → ((name : List ℕ) → BeginsName name ts → ⊥) → NoTag ts
+no_lone_tag none tag us is q closed = none tag (is, subst (Begins (word tag)) (sym q) refl)
+
+pub closed_tag : {ts vs : List Sign} {name : List ℕ} → ts ≡ word name ∷ vs → Begins brace vs → NoTag ts
+closed_tag q b tag us is r none = let p = same_word (sym q ∙ r) in none (subst (Begins brace) p.1 b)
+
+pub no_enumerators : {types : List (List ℕ)} {ts us : List Sign} {a : Option (List ℕ)} → TagRead ts a us →
+    ((items : List (List ℕ × Option Exp)) (more : Bool) (behind : List (List ℕ)) (left : List Sign) → EnumeratorsRead types us items more behind left → ⊥) →
+    (tag : Option (List ℕ)) (vs : List Sign) → TagRead ts tag vs → (items : List (List ℕ × Option Exp)) (more : Bool) (behind : List (List ℕ)) (left : List Sign) → EnumeratorsRead types vs items more behind left → ⊥
+no_enumerators {types = types} t none tag vs w items more behind left v =
+    let p = tag_same w t in none items more behind left (subst (λ z. EnumeratorsRead types z items more behind left) p.1 v)
+
+pub stands_at_word : {outer free free' : Bool} {types types' : List (List ℕ)} {seen seen' : Typed} {signs ts us : List Sign} {text : List ℕ} {spec : Specifier} →
+    signs ≡ word text ∷ ts → SpecifierRead outer text ts free types seen spec free' types' seen' us → SpecifierStands outer free types seen signs spec free' types' seen' us
+stands_at_word {ts = ts} {text = text} q w = record { text = text; behind = ts; first = q; reads = w }

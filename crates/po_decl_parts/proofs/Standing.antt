@@ -1,11 +1,13 @@
 -- The sign at a place of a range.
-use Rattle.std.proofs.Common.{◌≡◌, ◌∙◌, ◌<◌, ◌≤◌, ◌+◌, ℕ, List, [], ◌∷◌, get_or, take, length, ap, sym, subst, arith, Bool, true, false, true≢false, IsTrue, ◌↔◌}
-use Rattle.std.specs.Prelude.{Option, Some, None, MatchOption, OnSome}
+use Rattle.std.proofs.Common.{◌≡◌, ◌∙◌, ◌<◌, ◌≤◌, ◌+◌, ℕ, List, [], ◌∷◌, get_or, take, length, ap, sym, refl, subst, arith, Bool, true, false, true≢false, IsTrue, ◌↔◌}
+use Rattle.std.specs.Prelude.{Option, Some, None, MatchBool, MatchOption, OnSome}
 use Rattle.std.proofs.lemmas.List.{length-take, get_or-take}
 use Rattle.po_base.specs.declared.token.Token.{Token}
 use Rattle.po_base.specs.declared.token.TokenKind.TheVariants as k
 use Rattle.po_tree.specs.Signs.{Sign, sign_of, word}
 use Rattle.po_exp_read.specs.Longest.{signs_between, IsEnd}
+use Rattle.po_tree.specs.Words.{IsName}
+use Rattle.po_exp_read.specs.OneSpecifier.{BeginsName}
 use Rattle.po_exp_read.specs.TypeWords.{Begins, BeginsWord}
 use Rattle.po_decl_parts.specs.Constants.{BeginsEnd}
 use Rattle.po_exp_read.proofs.Standing.{at_place, at_end}
@@ -36,6 +38,11 @@ stands_by q h = rw q h
 pub stands_behind : {signs ts : List Sign} {sign target : Sign} {told : Bool} → signs ≡ sign ∷ ts → IsTrue told ↔ (sign ≡ target) → IsTrue told → signs ≡ target ∷ ts
 stands_behind {ts = ts} q h t = q ∙ ap (λ v. v ∷ ts) (h.0 t)
 
+-- what holds where a test succeeds
+pub where_told : {P : Type 0} (told : Bool) → (IsTrue told → P) → MatchBool told P (Unit {0})
+where_told true h = h refl
+where_told false h = tt
+
 pub stands_nowhere : {signs : List Sign} {target : Sign} → signs ≡ [] → IsTrue false ↔ Begins target signs
 stands_nowhere q = rw q ((λ t. absurd (true≢false (sym t))), (λ b. absurd b))
 
@@ -60,3 +67,12 @@ match_map (Some t) f g h = g t h
 pub on_some-always : {T Q : Type 0} (x : Option T) → Q → OnSome x Q
 on_some-always None h = tt
 on_some-always (Some t) h = h
+
+-- what begins with a name begins with a word
+
+pub name_word : {name : List ℕ} (ts : List Sign) → BeginsName name ts → BeginsWord ts
+name_word [] h = h.1
+name_word (t ∷ ts) h = ap (λ v. v.kind) h.1
+
+pub name_is : {name text : List ℕ} {ts us : List Sign} → ts ≡ word text ∷ us → BeginsName name ts → IsName text
+name_is {name = name} q h = let heads = subst (Begins (word name)) q h.1 in subst IsName (sym (ap (λ v. v.text) heads)) h.0

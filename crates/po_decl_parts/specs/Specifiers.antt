@@ -26,6 +26,10 @@ pub data TagRead (ts : List Sign) : Option (List ℕ) → List Sign → Type 0 w
   no_tag : (us : List Sign) → ts ≡ brace ∷ us → TagRead ts None us
   tagged : (tag : List ℕ) (us : List Sign) → IsName tag → ts ≡ word tag ∷ (brace ∷ us) → TagRead ts (Some tag) us
 
+-- no tag stands alone at the front, before something else than a brace
+abbrev pub NoTag : List Sign → Type 0
+NoTag ts = (tag : List ℕ) (us : List Sign) → IsName tag → ts ≡ word tag ∷ us → (Begins brace us → ⊥) → ⊥
+
 -- the body of a struct with this tag begins at the front of these signs; us are behind its brace
 pub record Opens (signs : List Sign) (tag : Option (List ℕ)) (us : List Sign) : Type 0 where
   pub behind : List Sign

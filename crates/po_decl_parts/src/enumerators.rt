@@ -40,10 +40,10 @@ fn enumerator_at(
     if !stands(tokens, behind, to, b"=") {
         return Ok(Some((name.share()?, None, behind)));
     }
-    match constant_at(alloc, tokens, behind + 1, to, names)? {
-        Some((value, end)) => Ok(Some((name.share()?, Some(value), end))),
-        None => Ok(None),
-    }
+    let Some((value, end)) = constant_at(alloc, tokens, behind + 1, to, names)? else {
+        return Ok(None);
+    };
+    Ok(Some((name.share()?, Some(value), end)))
 }
 
 /// The enumerators that stand at a place behind the brace that opens them, with the brace that closes them (C99 6.7.2.2); None exactly

@@ -1,5 +1,5 @@
 // What stands at a place of a range of tokens.
-ghost use Rattle.std.specs.Prelude.{◌≡◌, ◌≤◌, ◌<◌, ◌+◌, ◌∷◌, [], ◌↔◌, IsTrue, length, MatchOption, OnSome, OnNone};
+ghost use Rattle.std.specs.Prelude.{◌≡◌, ◌≤◌, ◌<◌, ◌+◌, ◌∷◌, [], ◌↔◌, IsTrue, length, MatchBool, MatchOption, OnSome, OnNone};
 ghost use Rattle.po_base.specs.declared.token.TokenKind.TheVariants as k;
 ghost use Rattle.po_tree.specs.Signs.{sign_of, word, punct};
 ghost use Rattle.po_tree.specs.Words.{IsName};
@@ -40,8 +40,8 @@ fn is_punct(token: &Token, text: &[u8]) -> bool
 /// Whether this punctuator stands at a place before `to`.
 pub fn stands(tokens: &Tokens, at: u32, to: u32, text: &[u8]) -> bool
     ensures first { IsTrue result ↔ Begins (punct text.now) (signs_between tokens.now.list at to) }
-    ensures within { IsTrue result → (at < to) × (at < length tokens.now.list) }
-    ensures behind { IsTrue result → signs_between tokens.now.list at to ≡ punct text.now ∷ signs_between tokens.now.list (at + 1) to }
+    ensures within { MatchBool result ((at < to) × (at < length tokens.now.list)) (Unit {0}) }
+    ensures behind { MatchBool result (signs_between tokens.now.list at to ≡ punct text.now ∷ signs_between tokens.now.list (at + 1) to) (Unit {0}) }
 {
     match token_before(tokens, at, to) {
         Some(token) => is_punct(token, text),
@@ -108,7 +108,9 @@ pub fn name_at(tokens: &Tokens, at: u32, to: u32) -> Option<&Text>
     ensures first { MatchOption result (Unit {0}) (λ name. IsName name.now × (signs_between tokens.now.list at to ≡ word name.now ∷ signs_between tokens.now.list (at + 1) to)) }
     ensures within { OnSome result ((at < to) × (at < length tokens.now.list)) }
 {
-    let text = word_at(tokens, at, to)?;
+    let Some(text) = word_at(tokens, at, to) else {
+        return None;
+    };
     if !is_name(text.bytes()) {
         return None;
     }

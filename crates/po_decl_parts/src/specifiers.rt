@@ -1,4 +1,4 @@
-ghost use Rattle.std.specs.Prelude.{ℕ, Bool, ◌≡◌, ◌≤◌, ◌<◌, ◌+◌, ◌∷◌, ◌↔◌, codes, length, IsTrue, Contains, Some, IfOk, IfSome, IfNone, MatchOption, OnSome};
+ghost use Rattle.std.specs.Prelude.{ℕ, Bool, ◌≡◌, ◌≤◌, ◌<◌, ◌+◌, ◌∷◌, ◌↔◌, codes, length, IsTrue, Contains, IfOk, IfSome, IfNone, MatchOption, OnSome};
 ghost use Rattle.std.specs.Prelude.{List as Sequence};
 ghost use Rattle.po_tree.specs.declared.expression.Specifier.TheVariants as sp;
 ghost use Rattle.po_tree.specs.Words.{IsName};
@@ -7,7 +7,7 @@ ghost use Rattle.po_tree.specs.NameSets.{AreSame};
 ghost use Rattle.po_exp_read.specs.Longest.{signs_between};
 ghost use Rattle.po_tree.specs.Signs.{word, brace};
 ghost use Rattle.po_exp_read.specs.TypeWords.{Begins};
-ghost use Rattle.po_decl_parts.specs.Specifiers.{typed, TagRead, Opens, SpecifierStands, IsSpecifierWord, FoundBehind, NoneBehind, NoSpecifier};
+ghost use Rattle.po_decl_parts.specs.Specifiers.{typed, TagRead, NoTag, Opens, SpecifierStands, IsSpecifierWord, FoundBehind, NoneBehind, NoSpecifier};
 
 use crate::enumerators::enumerators_at;
 use crate::places::{name_at, stands, word_at};
@@ -79,15 +79,15 @@ fn is_type_name(text: &Text, names: &Names) -> bool
 }
 
 /// A specifier of one word.
-fn of_word(text: &Text, free: bool, seen: Seen, end: u32) -> Result<Option<Found>, Memory>
-    ensures { IfOk result (λ found. found ≡ Some (record { specifier = sp.Word text.now; free = free; seen = seen; end = end })) }
+fn of_word(text: &Text, free: bool, seen: Seen, end: u32) -> Result<Found, Memory>
+    ensures { IfOk result (λ found. found ≡ record { specifier = sp.Word text.now; free = free; seen = seen; end = end }) }
 {
-    Ok(Some(Found {
+    Ok(Found {
         specifier: Specifier::Word(text.share()?),
         free,
         seen,
         end,
-    }))
+    })
 }
 
 /// The tag at a place, where one is written, before the brace that opens a body, and the place behind the brace; None exactly where no
@@ -127,22 +127,55 @@ pub fn opening_at(
     if !is_word(text, b"struct") {
         return Ok(None);
     }
-    tag_at(tokens, at + 1, to)
+    let Some((tag, end)) = tag_at(tokens, at + 1, to)? else {
+        return Ok(None);
+    };
+    Ok(Some((tag, end)))
 }
 
 /// The tag at a place before something else than a brace.
 fn lone_tag_at(tokens: &Tokens, at: u32, to: u32) -> Option<&Text>
-    ensures first { MatchOption result ((tag : _) (us : _) → IsName tag → signs_between tokens.now.list at to ≡ word tag ∷ us → (Begins brace us → ⊥) → ⊥) (λ tag. IsName tag.now × (signs_between tokens.now.list at to ≡ word tag.now ∷ signs_between tokens.now.list (at + 1) to) × (Begins brace (signs_between tokens.now.list (at + 1) to) → ⊥)) }
+    ensures first { MatchOption result (NoTag (signs_between tokens.now.list at to)) (λ tag. IsName tag.now × (signs_between tokens.now.list at to ≡ word tag.now ∷ signs_between tokens.now.list (at + 1) to) × (Begins brace (signs_between tokens.now.list (at + 1) to) → ⊥)) }
     ensures within { OnSome result ((at < to) × (at < length tokens.now.list)) }
 {
-    let tag = name_at(tokens, at, to)?;
+    let Some(tag) = name_at(tokens, at, to) else {
+        return None;
+    };
     if stands(tokens, at + 1, to, b"{") {
         return None;
     }
     Some(tag)
 }
 
-/// What stands behind `enum`: a body with its tag where one is written, or a tag alone.
+/// The body of an enumeration, with its tag where one is written, that stands behind `enum`.
+fn enum_body_at(
+    alloc: Global,
+    tokens: &Tokens,
+    at: u32,
+    to: u32,
+    free: bool,
+    names: &mut Names,
+) -> Result<Option<Found>, Memory>
+    ensures found { (outer : Bool) (types : Sequence (Sequence ℕ)) → AreSame types names.old.typedefs → IfOk result (λ found. IfSome found (λ f. FoundBehind outer (codes "enum") tokens.now.list at to free types untyped f names.new.typedefs)) }
+    ensures kept { IfOk result (λ _. (names.new.tags ≡ names.old.tags) × (names.new.outer ≡ names.old.outer)) }
+    ensures within { at ≤ to → at ≤ length tokens.now.list → IfOk result (λ found. IfSome found (λ f. (at ≤ f.end) × (f.end ≤ to) × (f.end ≤ length tokens.now.list))) }
+    ensures none { (outer : Bool) (types : Sequence (Sequence ℕ)) → AreSame types names.old.typedefs → NoTag (signs_between tokens.now.list at to) → IfOk result (λ found. IfNone found (NoneBehind outer (codes "enum") (signs_between tokens.now.list at to) free types untyped)) }
+{
+    let Some((tag, inside)) = tag_at(tokens, at, to)? else {
+        return Ok(None);
+    };
+    let Some(body) = enumerators_at(alloc, tokens, inside, to, names)? else {
+        return Ok(None);
+    };
+    Ok(Some(Found {
+        specifier: Specifier::Enum(tag, Some(body.items), body.more),
+        free,
+        seen: Seen::Name,
+        end: body.end,
+    }))
+}
+
+/// What stands behind `enum`: a tag alone, or a body with its tag where one is written.
 fn enum_at(
     alloc: Global,
     tokens: &Tokens,
@@ -156,26 +189,32 @@ fn enum_at(
     ensures within { at ≤ to → at ≤ length tokens.now.list → IfOk result (λ found. IfSome found (λ f. (at ≤ f.end) × (f.end ≤ to) × (f.end ≤ length tokens.now.list))) }
     ensures none { (outer : Bool) (types : Sequence (Sequence ℕ)) → AreSame types names.old.typedefs → IfOk result (λ found. IfNone found (NoneBehind outer (codes "enum") (signs_between tokens.now.list at to) free types untyped)) }
 {
-    if let Some(tag) = lone_tag_at(tokens, at, to) {
-        return Ok(Some(Found {
-            specifier: Specifier::Enum(Some(tag.share()?), None, false),
-            free,
-            seen: Seen::Name,
-            end: at + 1,
-        }));
-    }
-    let Some((tag, inside)) = tag_at(tokens, at, to)? else {
+    let Some(tag) = lone_tag_at(tokens, at, to) else {
+        return enum_body_at(alloc, tokens, at, to, free, names);
+    };
+    Ok(Some(Found {
+        specifier: Specifier::Enum(Some(tag.share()?), None, false),
+        free,
+        seen: Seen::Name,
+        end: at + 1,
+    }))
+}
+
+/// The tag alone that stands behind `struct`.
+fn struct_at(tokens: &Tokens, at: u32, to: u32, free: bool) -> Result<Option<Found>, Memory>
+    ensures found { (outer : Bool) (types now : Sequence (Sequence ℕ)) → AreSame types now → IfOk result (λ found. IfSome found (λ f. FoundBehind outer (codes "struct") tokens.now.list at to free types untyped f now)) }
+    ensures within { at ≤ to → at ≤ length tokens.now.list → IfOk result (λ found. IfSome found (λ f. (at ≤ f.end) × (f.end ≤ to) × (f.end ≤ length tokens.now.list))) }
+    ensures none { (outer : Bool) (types : Sequence (Sequence ℕ)) → IfOk result (λ found. IfNone found (NoneBehind outer (codes "struct") (signs_between tokens.now.list at to) free types untyped)) }
+{
+    let Some(tag) = lone_tag_at(tokens, at, to) else {
         return Ok(None);
     };
-    match enumerators_at(alloc, tokens, inside, to, names)? {
-        Some(body) => Ok(Some(Found {
-            specifier: Specifier::Enum(tag, Some(body.items), body.more),
-            free,
-            seen: Seen::Name,
-            end: body.end,
-        })),
-        None => Ok(None),
-    }
+    Ok(Some(Found {
+        specifier: Specifier::Struct(Some(tag.share()?), None),
+        free,
+        seen: Seen::Name,
+        end: at + 1,
+    }))
 }
 
 /// The specifier that a word before a place begins where no type specifier came before it: a typedef name, a tag, or an enumeration.
@@ -197,15 +236,7 @@ fn first_type(
         return enum_at(alloc, tokens, at, to, free, names);
     }
     if is_word(text, b"struct") {
-        return match lone_tag_at(tokens, at, to) {
-            Some(tag) => Ok(Some(Found {
-                specifier: Specifier::Struct(Some(tag.share()?), None),
-                free,
-                seen: Seen::Name,
-                end: at + 1,
-            })),
-            None => Ok(None),
-        };
+        return struct_at(tokens, at, to, free);
     }
     if !is_type_name(text, names) {
         return Ok(None);
@@ -236,25 +267,25 @@ fn specifier_behind(
     ensures none { (types : Sequence (Sequence ℕ)) → AreSame types names.old.typedefs → IfOk result (λ found. IfNone found (NoneBehind outer text.now (signs_between tokens.now.list at to) free types (typed seen))) }
 {
     if is_qualifier(text.bytes()) {
-        return of_word(text, free, seen, at);
+        return Ok(Some(of_word(text, free, seen, at)?));
     }
     if is_storage_class(text.bytes()) {
         if !free {
             return Ok(None);
         }
-        return of_word(text, false, seen, at);
+        return Ok(Some(of_word(text, false, seen, at)?));
     }
     if is_word(text, b"inline") {
         if !outer {
             return Ok(None);
         }
-        return of_word(text, free, seen, at);
+        return Ok(Some(of_word(text, free, seen, at)?));
     }
     if is_type_word(text.bytes()) {
         if !takes_word(seen) {
             return Ok(None);
         }
-        return of_word(text, free, Seen::Words, at);
+        return Ok(Some(of_word(text, free, Seen::Words, at)?));
     }
     if !is_untyped(seen) {
         return Ok(None);
@@ -286,5 +317,11 @@ pub fn specifier_at(
     let Some(text) = word_at(tokens, at, to) else {
         return Ok(None);
     };
-    specifier_behind(alloc, tokens, text, at + 1, to, outer, free, seen, names)
+    let next = at + 1;
+    let Some(found) =
+        specifier_behind(alloc, tokens, text, next, to, outer, free, seen, names)?
+    else {
+        return Ok(None);
+    };
+    Ok(Some(found))
 }

@@ -14,7 +14,9 @@ fn qualifier_at(tokens: &Tokens, at: u32, to: u32) -> Option<&Text>
     ensures first { MatchOption result (BeginsQualifier (signs_between tokens.now.list at to) → ⊥) (λ text. Contains qualifiers text.now × (signs_between tokens.now.list at to ≡ word text.now ∷ signs_between tokens.now.list (at + 1) to)) }
     ensures within { OnSome result ((at < to) × (at < length tokens.now.list)) }
 {
-    let text = word_at(tokens, at, to)?;
+    let Some(text) = word_at(tokens, at, to) else {
+        return None;
+    };
     if !is_qualifier(text.bytes()) {
         return None;
     }
