@@ -14,14 +14,14 @@ use Rattle.po_exp_read.specs.Longest.{StandsAt}
 use Rattle.po_tree.proofs.Threaded.{without_to, without_from}
 
 -- a name that the one list lacks and the other hides
-pub hides_same : (name : List ℕ) {types before behind : List (List ℕ)} → AreSame types before → Hides (λ x. name ≡ x) before behind → AreSame (without name types) behind
-hides_same name {types = types} s hides x = (
+pub hides_same : (name : List ℕ) (types before behind : List (List ℕ)) → AreSame types before → Hides (λ x. name ≡ x) before behind → AreSame (without name types) behind
+hides_same name types before behind s hides x = (
   λ c. let h = without_to name types x c in (hides.each x).1 ((s x).0 h.0, h.1),
   λ c. let h = (hides.each x).0 c in without_from name types x ((s x).1 h.0) h.1,
 )
 
-pub turned : {a b : List (List ℕ)} → AreSame a b → AreSame b a
-turned s x = ((s x).1, (s x).0)
+pub turned : (a b : List (List ℕ)) → AreSame a b → AreSame b a
+turned a b s x = ((s x).1, (s x).0)
 
 leaf : {a b : List (List ℕ)} {x : Exp} {sign : Sign} → AreSame a b → IsLeaf a x sign → IsLeaf b x sign
 leaf s (ex.variable name is none) = ex.variable name is (λ c. none ((s name).1 c))

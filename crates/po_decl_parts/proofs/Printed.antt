@@ -61,13 +61,13 @@ stars_printed ts us stars w = let p = stars_sound w in record { formed = p.0; pr
 
 pub stars_complete : (stars : List (List (List ℕ))) (rest : List Sign) → All (All (Contains qualifiers)) stars → (Begins star rest → ⊥) → NoQualifierBehind stars rest →
     StarsRead (flat_map prints_star stars ++ rest) stars rest
-stars_complete [] rest all ends last = no_star rest ends
-stars_complete (words ∷ stars) rest all ends last =
+stars_complete [] rest all ends shut = no_star rest ends
+stars_complete (words ∷ stars) rest all ends shut =
     let us : List Sign = flat_map prints_star stars ++ rest in
     let these = All-head (All (Contains qualifiers)) words stars all in
     let those = All-tail (All (Contains qualifiers)) words stars all in
     subst (λ v. StarsRead (star ∷ v) (words ∷ stars) rest) (sym (append_assoc (map word words) (flat_map prints_star stars) rest))
-    (one_star words stars _ us rest (words_complete words us these (stars_begin stars rest last)) (stars_complete stars rest those ends (still stars rest last)))
+    (one_star words stars _ us rest (words_complete words us these (stars_begin stars rest shut)) (stars_complete stars rest those ends (still stars rest shut)))
   where
     still : (stars : List (List (List ℕ))) (rest : List Sign) → (BeginsQualifier rest → ⊥) → NoQualifierBehind stars rest
     still [] rest h = tt

@@ -118,43 +118,43 @@ tag_reads us (de.tagged tag is) = tagged tag us is refl
 pub specifier_complete : {outer free : Bool} {types last : List (List ℕ)} {seen sort : Typed} {signs : List Sign} {spec : Specifier} {rest : List Specifier} (us : List Sign) →
     Specs outer free types seen (spec ∷ rest) last sort → specifier_height spec ≤ 256 → signs ≡ flat_specifier spec ++ us → (Begins brace us → ⊥) → (HasMembers spec → ⊥) →
     BeginsSpecifiers outer free types seen signs spec us rest last sort
-specifier_complete us (de.storage_class outer types types' seen seen' text rest h w) low q none no = record {
+specifier_complete us (de.storage_class outer types types' seen seen' text rest h w) low q none wrong = record {
   free' = false; types' = types; seen' = seen;
   stands = record { text = text; behind = us; first = q ∙ ap (λ v. v ++ us) (flat_specifier-Word text); reads = storage_class types seen h };
   others = w;
 }
-specifier_complete us (de.inline_word outer free types types' seen seen' rest is w) low q none no = record {
+specifier_complete us (de.inline_word outer free types types' seen seen' rest is w) low q none wrong = record {
   free' = free; types' = types; seen' = seen;
   stands = record { text = codes "inline"; behind = us; first = q ∙ ap (λ v. v ++ us) (flat_specifier-Word (codes "inline")); reads = inline_word free types seen refl is };
   others = w;
 }
-specifier_complete us (de.qualifier outer free types types' seen seen' text rest h w) low q none no = record {
+specifier_complete us (de.qualifier outer free types types' seen seen' text rest h w) low q none wrong = record {
   free' = free; types' = types; seen' = seen;
   stands = record { text = text; behind = us; first = q ∙ ap (λ v. v ++ us) (flat_specifier-Word text); reads = qualifier free types seen h };
   others = w;
 }
-specifier_complete us (de.type_word outer free types types' seen seen' text rest h t w) low q none no = record {
+specifier_complete us (de.type_word outer free types types' seen seen' text rest h t w) low q none wrong = record {
   free' = free; types' = types; seen' = by_words;
   stands = record { text = text; behind = us; first = q ∙ ap (λ v. v ++ us) (flat_specifier-Word text); reads = type_word free types seen h t };
   others = w;
 }
-specifier_complete us (de.typedef_name outer free types types' seen' name rest is c w) low q none no = record {
+specifier_complete us (de.typedef_name outer free types types' seen' name rest is c w) low q none wrong = record {
   free' = free; types' = types; seen' = by_name;
   stands = record { text = name; behind = us; first = q ∙ ap (λ v. v ++ us) (flat_specifier-Named name); reads = typedef_name free types is c };
   others = w;
 }
-specifier_complete us (de.struct_tag outer free types types' seen' tag rest is w) low q none no = record {
+specifier_complete us (de.struct_tag outer free types types' seen' tag rest is w) low q none wrong = record {
   free' = free; types' = types; seen' = by_name;
   stands = record { text = codes "struct"; behind = word tag ∷ us; first = q ∙ ap (λ v. v ++ us) (flat_specifier-struct tag); reads = struct_tag free types tag us refl is refl none };
   others = w;
 }
-specifier_complete us (de.struct_body outer free types inner types' seen' tag m ms rest is inside w) low q none no = absurd (no (tag, m ∷ ms, refl))
-specifier_complete us (de.enum_tag outer free types types' seen' tag rest is w) low q none no = record {
+specifier_complete us (de.struct_body outer free types inner types' seen' tag m ms rest is inside w) low q none wrong = absurd (wrong (tag, m ∷ ms, refl))
+specifier_complete us (de.enum_tag outer free types types' seen' tag rest is w) low q none wrong = record {
   free' = free; types' = types; seen' = by_name;
   stands = record { text = codes "enum"; behind = word tag ∷ us; first = q ∙ ap (λ v. v ++ us) (flat_specifier-enum tag); reads = enum_tag free types tag us refl is refl none };
   others = w;
 }
-specifier_complete us (de.enum_body outer free more types inner types' seen' tag item items rest is inside w) low q none no =
+specifier_complete us (de.enum_body outer free more types inner types' seen' tag item items rest is inside w) low q none wrong =
     let name : List Sign = optional (λ name. word name ∷ []) tag in
     let body : List Sign = flat_enumerators (item ∷ items) more ++ (brace_end ∷ us) in
     let printed : (name ++ in_braces (flat_enumerators (item ∷ items) more)) ++ us ≡ name ++ (brace ∷ body) = sym (enclosed name (flat_enumerators (item ∷ items) more) us brace brace_end) in

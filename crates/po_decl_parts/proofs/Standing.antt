@@ -43,8 +43,8 @@ pub where_told : {P : Type 0} (told : Bool) → (IsTrue told → P) → MatchBoo
 where_told true h = h refl
 where_told false h = tt
 
-pub stands_nowhere : {signs : List Sign} {target : Sign} → signs ≡ [] → IsTrue false ↔ Begins target signs
-stands_nowhere q = rw q ((λ t. absurd (true≢false (sym t))), (λ b. absurd b))
+pub stands_nowhere : {signs : List Sign} (target : Sign) → signs ≡ [] → IsTrue false ↔ Begins target signs
+stands_nowhere target q = rw q ((λ t. absurd (true≢false (sym t))), (λ b. absurd b))
 
 pub ends_by : {signs ts : List Sign} {sign : Sign} {told : Bool} → signs ≡ sign ∷ ts → IsTrue told ↔ IsEnd sign → IsTrue told ↔ BeginsEnd signs
 ends_by q h = rw q h
@@ -70,9 +70,9 @@ on_some-always (Some t) h = h
 
 -- what begins with a name begins with a word
 
-pub name_word : {name : List ℕ} (ts : List Sign) → BeginsName name ts → BeginsWord ts
-name_word [] h = h.1
-name_word (t ∷ ts) h = ap (λ v. v.kind) h.1
+pub name_word : (name : List ℕ) (ts : List Sign) → BeginsName name ts → BeginsWord ts
+name_word name [] h = h.1
+name_word name (t ∷ ts) h = ap (λ v. v.kind) h.1
 
-pub name_is : {name text : List ℕ} {ts us : List Sign} → ts ≡ word text ∷ us → BeginsName name ts → IsName text
-name_is {name = name} q h = let heads = subst (Begins (word name)) q h.1 in subst IsName (sym (ap (λ v. v.text) heads)) h.0
+pub name_is : (name : List ℕ) {text : List ℕ} {ts us : List Sign} → ts ≡ word text ∷ us → BeginsName name ts → IsName text
+name_is name q h = let heads = subst (Begins (word name)) q h.1 in subst IsName (sym (ap (λ v. v.text) heads)) h.0

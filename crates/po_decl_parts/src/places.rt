@@ -1,5 +1,5 @@
 // What stands at a place of a range of tokens.
-ghost use Rattle.std.specs.Prelude.{◌≡◌, ◌≤◌, ◌<◌, ◌+◌, ◌∷◌, [], ◌↔◌, IsTrue, length, MatchBool, MatchOption, OnSome, OnNone};
+ghost use Rattle.std.specs.Prelude.{◌≡◌, ◌≤◌, ◌<◌, ◌+◌, ◌∷◌, [], ◌↔◌, IsTrue, length, MatchBool, MatchOption, OnSome};
 ghost use Rattle.po_base.specs.declared.token.TokenKind.TheVariants as k;
 ghost use Rattle.po_tree.specs.Signs.{sign_of, word, punct};
 ghost use Rattle.po_tree.specs.Words.{IsName};
@@ -104,8 +104,7 @@ pub(crate) fn word_at(tokens: &Tokens, at: u32, to: u32) -> Option<&Text>
 
 /// The name at a place before `to`, where one stands there.
 pub fn name_at(tokens: &Tokens, at: u32, to: u32) -> Option<&Text>
-    ensures none { OnNone result ((name : _) → BeginsName name (signs_between tokens.now.list at to) → ⊥) }
-    ensures first { MatchOption result (Unit {0}) (λ name. IsName name.now × (signs_between tokens.now.list at to ≡ word name.now ∷ signs_between tokens.now.list (at + 1) to)) }
+    ensures first { MatchOption result ((name : _) → BeginsName name (signs_between tokens.now.list at to) → ⊥) (λ name. IsName name.now × (signs_between tokens.now.list at to ≡ word name.now ∷ signs_between tokens.now.list (at + 1) to)) }
     ensures within { OnSome result ((at < to) × (at < length tokens.now.list)) }
 {
     let Some(text) = word_at(tokens, at, to) else {

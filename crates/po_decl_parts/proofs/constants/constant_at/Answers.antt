@@ -1,6 +1,6 @@
 use Rattle.std.proofs.Common.{refl}
 use Rattle.po_exp_read.proofs.Telling.{none_told}
-use Rattle.po_decl_parts.proofs.Constants.{no_constant}
+use Rattle.po_decl_parts.proofs.Endings.{no_constant}
 use Rattle.po_decl_parts.proofs.Naming.{stands_same, turned}
 use Rattle.po_decl_parts.proofs.constants.constant_at.Goals as goal
 
@@ -16,4 +16,4 @@ returns-then-not-ends-clause-none c = λ types s x left w.
 pub returns-clause-found : goal.returns-clause-found
 returns-clause-found c = λ types s.
     let best = rw c.in-Some.is at c.in_ok-x.ensures.found in
-    record { stands = stands_same (turned s) best.stands; ended = c.if-not-ends.ensures.0 refl }
+    record { stands = stands_same (turned _ _ s) best.stands; ended = c.if-not-ends.ensures.0 refl }

@@ -4,7 +4,7 @@ use Rattle.po_tree.specs.Declarations.{without}
 use Rattle.po_exp_read.proofs.Telling.{none_told}
 use Rattle.po_decl_parts.proofs.Leading.{leads_start, leads_on, leads_nowhere}
 use Rattle.po_decl_parts.proofs.Naming.{hides_same}
-use Rattle.po_decl_parts.proofs.Enumerators.{item_leads, no_items, open_items, closed_by_brace, closed_by_comma}
+use Rattle.po_decl_parts.proofs.Listed.{item_leads, no_items, open_items, closed_by_brace, closed_by_comma}
 use Rattle.po_decl_parts.proofs.enumerators.enumerators_at.Goals as goal
 
 pub loop-items-init : goal.loop-items-init
@@ -20,7 +20,7 @@ returns-then-stands-clause-found c = λ types s.
     let l = c.loop-items.invariant.leads types s in
     let read = rw c.in-Some.is at (c.in_ok-name.ensures.found l.0 l.1) in
     let closed = closed_by_brace _ read c.if-stands.ensures.behind in
-    (_, rw c.in_ok-push.ensures.ok (l.2.forth _ (record { more = false; types = without c.in-Some.name l.0; left = _ }) closed), hides_same _ l.1 c.in_ok-hide.ensures.ok.0)
+    (_, rw c.in_ok-push.ensures.ok (l.2.forth _ (record { more = false; types = without c.in-Some.name l.0; left = _ }) closed), hides_same _ _ _ _ l.1 c.in_ok-hide.ensures.ok.0)
 
 pub returns-then-not-stands-clause-none : goal.returns-then-not-stands-clause-none
 returns-then-not-stands-clause-none c = λ types s items more behind left w.
@@ -33,7 +33,7 @@ returns-then-stands-2-clause-found c = λ types s.
     let l = c.loop-items.invariant.leads types s in
     let read = rw c.in-Some.is at (c.in_ok-name.ensures.found l.0 l.1) in
     let closed = closed_by_comma _ _ read c.if-not-stands.ensures.behind c.if-stands-2.ensures.behind in
-    (_, rw c.in_ok-push.ensures.ok (l.2.forth _ (record { more = true; types = without c.in-Some.name l.0; left = _ }) closed), hides_same _ l.1 c.in_ok-hide.ensures.ok.0)
+    (_, rw c.in_ok-push.ensures.ok (l.2.forth _ (record { more = true; types = without c.in-Some.name l.0; left = _ }) closed), hides_same _ _ _ _ l.1 c.in_ok-hide.ensures.ok.0)
 
 pub loop-items-preserved : goal.loop-items-preserved
 loop-items-preserved c =
@@ -44,7 +44,7 @@ loop-items-preserved c =
       leads = λ types s.
           let l = i.leads types s in
           let read = rw c.in-Some.is at (c.in_ok-name.ensures.found l.0 l.1) in
-          (_, hides_same _ l.1 hidden.0, rw c.in_ok-push.ensures.ok (leads_on l.2 (item_leads _ read c.if-not-stands.ensures.behind (none_told c.if-stands-2.ensures.first))));
+          (_, hides_same _ _ _ _ l.1 hidden.0, rw c.in_ok-push.ensures.ok (leads_on l.2 (item_leads _ read c.if-not-stands.ensures.behind (none_told c.if-stands-2.ensures.first))));
       kept = (hidden.1 ∙ i.kept.0, hidden.2 ∙ i.kept.1);
       after = omega (arith, i.after, within.0);
     }

@@ -2,7 +2,7 @@ use Rattle.std.proofs.Common.{◌≡◌, ◌≤◌, ◌-◌, ℕ, List, length}
 use Rattle.po_tree.specs.NameSets.{AreSame}
 use Rattle.po_exp_read.specs.Longest.{signs_between}
 use Rattle.po_decl_parts.proofs.Leading.{Leads}
-use Rattle.po_decl_parts.proofs.Enumerators.{Items}
+use Rattle.po_decl_parts.proofs.Listed.{Items}
 use Rattle.po_decl_parts.proofs.enumerators.enumerators_at.Given as goal
 
 abbrev pub invariant-loop-items : goal.invariant-loop-items

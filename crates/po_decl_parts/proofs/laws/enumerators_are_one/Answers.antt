@@ -1,6 +1,6 @@
 use Rattle.std.proofs.Common.{refl}
 use Rattle.po_decl_parts.proofs.Printed.{enumerators_printed, enumerators_read}
-use Rattle.po_decl_parts.proofs.Enumerators.{items_along}
+use Rattle.po_decl_parts.proofs.Listed.{items_along}
 use Rattle.po_decl_parts.proofs.laws.enumerators_are_one.Goals as goal
 
 pub returns-clause-printed : goal.returns-clause-printed

@@ -1,5 +1,5 @@
 use Rattle.po_decl_parts.proofs.Printed.{sizes_printed, sizes_read}
-use Rattle.po_decl_parts.proofs.Sizes.{sizes_same}
+use Rattle.po_decl_parts.proofs.Bracketed.{sizes_same}
 use Rattle.po_decl_parts.proofs.laws.sizes_are_all_sizes.Goals as goal
 
 pub returns-clause-printed : goal.returns-clause-printed

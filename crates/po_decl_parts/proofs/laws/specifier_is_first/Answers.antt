@@ -1,5 +1,5 @@
 use Rattle.po_decl_parts.proofs.PrintedSpecifiers.{specifier_printed, specifier_complete}
-use Rattle.po_decl_parts.proofs.Specifiers.{stands_one}
+use Rattle.po_decl_parts.proofs.FirstWords.{stands_one}
 use Rattle.po_decl_parts.proofs.laws.specifier_is_first.Goals as goal
 
 pub returns-clause-printed : goal.returns-clause-printed

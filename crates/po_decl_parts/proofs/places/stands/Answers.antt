@@ -11,4 +11,4 @@ pub returns-in-Some-clause-within : goal.returns-in-Some-clause-within
 returns-in-Some-clause-within c = where_told c.is_punct.result (λ _. c.in-Some.ensures.within)
 
 pub returns-in-None-clause-first : goal.returns-in-None-clause-first
-returns-in-None-clause-first c = stands_nowhere c.in-None.ensures.first
+returns-in-None-clause-first c = stands_nowhere _ c.in-None.ensures.first

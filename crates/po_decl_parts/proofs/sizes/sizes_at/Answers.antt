@@ -3,7 +3,7 @@ use Rattle.po_tree.specs.Signs.{bracket}
 use Rattle.po_exp_read.proofs.Telling.{none_told}
 use Rattle.po_decl_parts.specs.Sizes.{sizes_end}
 use Rattle.po_decl_parts.proofs.Leading.{leads_on, leads_end, leads_nowhere}
-use Rattle.po_decl_parts.proofs.Sizes.{empty_leads, size_leads, no_sizes, open_sizes, closed_by}
+use Rattle.po_decl_parts.proofs.Bracketed.{empty_leads, size_leads, no_sizes, open_sizes, closed_by}
 use Rattle.po_decl_parts.proofs.sizes.sizes_at.Goals as goal
 
 pub loop-alloc-preserved-then-stands : goal.loop-alloc-preserved-then-stands

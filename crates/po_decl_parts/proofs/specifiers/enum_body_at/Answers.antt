@@ -1,6 +1,6 @@
 use Rattle.std.proofs.Common.{refl}
 use Rattle.po_decl_parts.specs.Specifiers.{enum_body}
-use Rattle.po_decl_parts.proofs.Specifiers.{no_enumeration, no_enumerators}
+use Rattle.po_decl_parts.proofs.FirstWords.{no_enumeration, no_enumerators}
 use Rattle.po_decl_parts.proofs.specifiers.enum_body_at.Goals as goal
 
 pub returns-in_default-clause-none : goal.returns-in_default-clause-none

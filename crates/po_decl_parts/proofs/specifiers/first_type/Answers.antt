@@ -1,7 +1,7 @@
 use Rattle.std.proofs.Common.{refl}
 use Rattle.po_exp_read.proofs.Telling.{none_told}
 use Rattle.po_decl_parts.specs.Specifiers.{typedef_name}
-use Rattle.po_decl_parts.proofs.Specifiers.{no_name}
+use Rattle.po_decl_parts.proofs.FirstWords.{no_name}
 use Rattle.po_decl_parts.proofs.specifiers.first_type.Goals as goal
 
 pub returns-then-is_word-clause-found : goal.returns-then-is_word-clause-found

@@ -1,6 +1,6 @@
 use Rattle.std.proofs.Common.{refl}
 use Rattle.po_exp_read.proofs.Telling.{none_told}
-use Rattle.po_decl_parts.proofs.Specifiers.{opens_word, opens_struct, opens_by}
+use Rattle.po_decl_parts.proofs.FirstWords.{opens_word, opens_struct, opens_by}
 use Rattle.po_decl_parts.proofs.specifiers.opening_at.Goals as goal
 
 pub returns-in_default-clause-none : goal.returns-in_default-clause-none

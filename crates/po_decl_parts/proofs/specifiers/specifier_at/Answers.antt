@@ -1,5 +1,5 @@
 use Rattle.std.proofs.Common.{arith}
-use Rattle.po_decl_parts.proofs.Specifiers.{stands_word, stands_reads, stands_at_word}
+use Rattle.po_decl_parts.proofs.FirstWords.{stands_word, stands_reads, stands_at_word}
 use Rattle.po_decl_parts.proofs.specifiers.specifier_at.Goals as goal
 
 pub returns-in_default-clause-none : goal.returns-in_default-clause-none

@@ -1,7 +1,7 @@
 use Rattle.std.proofs.Common.{arith, refl}
 use Rattle.po_exp_read.proofs.Telling.{none_told}
 use Rattle.po_decl_parts.specs.Specifiers.{storage_class, inline_word, qualifier, type_word}
-use Rattle.po_decl_parts.proofs.Specifiers.{no_storage, no_inline, no_type_word, no_typed, specifier_word}
+use Rattle.po_decl_parts.proofs.FirstWords.{no_storage, no_inline, no_type_word, no_typed, specifier_word}
 use Rattle.po_decl_parts.proofs.specifiers.specifier_behind.Goals as goal
 
 pub returns-then-is_qualifier-clause-found : goal.returns-then-is_qualifier-clause-found

@@ -1,6 +1,6 @@
 use Rattle.std.proofs.Common.{refl}
 use Rattle.po_decl_parts.specs.Specifiers.{struct_tag}
-use Rattle.po_decl_parts.proofs.Specifiers.{no_struct}
+use Rattle.po_decl_parts.proofs.FirstWords.{no_struct}
 use Rattle.po_decl_parts.proofs.specifiers.struct_at.Goals as goal
 
 pub returns-in_default-clause-none : goal.returns-in_default-clause-none

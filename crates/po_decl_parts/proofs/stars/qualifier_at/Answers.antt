@@ -1,6 +1,6 @@
 use Rattle.std.proofs.Common.{refl}
 use Rattle.po_exp_read.proofs.Telling.{none_told}
-use Rattle.po_decl_parts.proofs.Stars.{qualifier_word, not_qualifier}
+use Rattle.po_decl_parts.proofs.Starred.{qualifier_word, not_qualifier}
 use Rattle.po_decl_parts.proofs.stars.qualifier_at.Goals as goal
 
 pub returns-in_default-clause-first : goal.returns-in_default-clause-first

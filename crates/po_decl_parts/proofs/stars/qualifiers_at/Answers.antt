@@ -1,7 +1,7 @@
 use Rattle.std.proofs.Common.{arith}
 use Rattle.po_decl_parts.specs.Stars.{no_qualifier}
 use Rattle.po_decl_parts.proofs.Leading.{leads_on, leads_end}
-use Rattle.po_decl_parts.proofs.Stars.{word_leads}
+use Rattle.po_decl_parts.proofs.Starred.{word_leads}
 use Rattle.po_decl_parts.proofs.stars.qualifiers_at.Goals as goal
 
 pub loop-text-preserved : goal.loop-text-preserved

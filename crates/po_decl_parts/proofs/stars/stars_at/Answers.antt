@@ -2,7 +2,7 @@ use Rattle.std.proofs.Common.{arith, refl}
 use Rattle.po_exp_read.proofs.Telling.{none_told}
 use Rattle.po_decl_parts.specs.Stars.{no_star}
 use Rattle.po_decl_parts.proofs.Leading.{leads_on, leads_end}
-use Rattle.po_decl_parts.proofs.Stars.{star_leads}
+use Rattle.po_decl_parts.proofs.Starred.{star_leads}
 use Rattle.po_decl_parts.proofs.stars.stars_at.Goals as goal
 
 pub loop-alloc-preserved : goal.loop-alloc-preserved

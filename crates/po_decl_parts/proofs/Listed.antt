@@ -12,7 +12,7 @@ use Rattle.po_exp_read.specs.TypeWords.{Begins}
 use Rattle.po_decl_parts.specs.Constants.{ConstantStands}
 use Rattle.po_decl_parts.specs.Enumerators.{EnumeratorRead, plain, valued, EnumeratorsRead, last, last_comma, further}
 use Rattle.po_decl_parts.proofs.Standing.{same_word}
-use Rattle.po_decl_parts.proofs.Constants.{constant_same}
+use Rattle.po_decl_parts.proofs.Endings.{constant_same}
 use Rattle.po_decl_parts.proofs.Leading.{Leads}
 
 -- what is known behind the brace that closes enumerators
@@ -78,9 +78,9 @@ no_items none zs end (further types types' item items more ts us vs v u) = none 
 -- nor where neither a comma nor a brace follows one
 pub open_items : {types : List (List ℕ)} {ts us : List Sign} {item : List ℕ × Option Exp} → EnumeratorRead types ts item us → (Begins brace_end us → ⊥) → (Begins comma us → ⊥) →
     (zs : List (List ℕ × Option Exp)) (end : Closed) → Items types ts zs end → ⊥
-open_items w none no zs end (last types item ts us v) = let p = item_same v w in none (subst (Begins brace_end) p.1 refl)
-open_items w none no zs end (last_comma types item ts us v) = let p = item_same v w in no (subst (Begins comma) p.1 refl)
-open_items w none no zs end (further types types' item items more ts us vs v u) = let p = item_same v w in no (subst (Begins comma) p.1 refl)
+open_items w none wrong zs end (last types item ts us v) = let p = item_same v w in none (subst (Begins brace_end) p.1 refl)
+open_items w none wrong zs end (last_comma types item ts us v) = let p = item_same v w in wrong (subst (Begins comma) p.1 refl)
+open_items w none wrong zs end (further types types' item items more ts us vs v u) = let p = item_same v w in wrong (subst (Begins comma) p.1 refl)
 
 -- the last enumerator
 pub closed_by_brace : {types : List (List ℕ)} {ts us : List Sign} {item : List ℕ × Option Exp} (left : List Sign) → EnumeratorRead types ts item us → us ≡ brace_end ∷ left →
@@ -106,7 +106,7 @@ valued_by {types = types} {vs = vs} {left = left} {name = name} {x = x} us h q w
 
 pub no_value : {types : List (List ℕ)} {ts vs : List Sign} {name : List ℕ} (us : List Sign) → ts ≡ word name ∷ us → us ≡ equals ∷ vs → ((x : Exp) (left : List Sign) → ConstantStands types vs x left → ⊥) →
     (item : List ℕ × Option Exp) (left : List Sign) → EnumeratorRead types ts item left → ⊥
-no_value us q r none item left (plain own ts is no) = let p = same_word q in no (subst (Begins equals) (sym (p.1 ∙ r)) refl)
+no_value us q r none item left (plain own ts is wrong) = let p = same_word q in wrong (subst (Begins equals) (sym (p.1 ∙ r)) refl)
 no_value {vs = vs} us q r none item left (valued own x ts left' is w) =
     let p = same_word q in
     let both = p.1 ∙ r in

@@ -7,7 +7,7 @@ use Rattle.po_exp_read.specs.Longest.{StandsAt}
 use Rattle.po_exp_read.specs.TypeWords.{Begins}
 use Rattle.po_decl_parts.specs.Constants.{ConstantStands}
 use Rattle.po_decl_parts.specs.Sizes.{SizesRead, sizes_end, no_size, one_size}
-use Rattle.po_decl_parts.proofs.Constants.{constant_same, no_bracket_end, bracketed}
+use Rattle.po_decl_parts.proofs.Endings.{constant_same, no_bracket_end, bracketed}
 use Rattle.po_decl_parts.proofs.Leading.{Leads}
 
 module _ {types : List (List ℕ)} where

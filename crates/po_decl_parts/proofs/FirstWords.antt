@@ -13,9 +13,9 @@ use Rattle.po_exp_read.specs.OneSpecifier.{BeginsName}
 use Rattle.po_exp_read.specs.TypeWords.{Begins, BeginsWord}
 use Rattle.po_decl_parts.specs.Enumerators.{EnumeratorsRead}
 use Rattle.po_decl_parts.specs.Specifiers.{TagRead, no_tag, tagged, NoTag, Opens, SpecifierRead, storage_class, inline_word, qualifier, type_word, typedef_name, struct_tag, enum_tag, enum_body, SpecifierStands, IsSpecifierWord, by_storage_class, by_inline, by_qualifier, by_type}
-use Rattle.po_decl_parts.proofs.Words.{class_word, class_qualifier, class_type_word, class_struct, class_enum, class_storage, class_inline, class_name}
+use Rattle.po_decl_parts.proofs.Classes.{class_word, class_qualifier, class_type_word, class_struct, class_enum, class_storage, class_inline, class_name}
 use Rattle.po_decl_parts.proofs.Standing.{same_word}
-use Rattle.po_decl_parts.proofs.Enumerators.{items_along}
+use Rattle.po_decl_parts.proofs.Listed.{items_along}
 
 -- a brace is no word
 pub brace_word : {text : List ℕ} {ts us : List Sign} → brace ∷ ts ≡ word text ∷ us → ⊥
@@ -80,8 +80,8 @@ no_typed none late (inline_word free types seen q is) = none (by_inline q)
 no_typed none late (qualifier free types seen h) = none (by_qualifier h)
 no_typed none late (type_word free types seen h t) = none (by_type h)
 no_typed none late (typedef_name free types is c) = late refl
-no_typed none late (struct_tag free types tag us q is r no) = late refl
-no_typed none late (enum_tag free types tag us q is r no) = late refl
+no_typed none late (struct_tag free types tag us q is r wrong) = late refl
+no_typed none late (enum_tag free types tag us q is r wrong) = late refl
 no_typed none late (enum_body free more types types' tag items us vs q w v) = late refl
 
 pub no_name : {outer free free' : Bool} {text : List ℕ} {ts us : List Sign} {types types' : List (List ℕ)} {seen seen' : Typed} {spec : Specifier} →
@@ -92,13 +92,13 @@ no_name none no_enum no_struct no_type (inline_word free types seen q is) = none
 no_name none no_enum no_struct no_type (qualifier free types seen h) = none (by_qualifier h)
 no_name none no_enum no_struct no_type (type_word free types seen h t) = none (by_type h)
 no_name none no_enum no_struct no_type (typedef_name free types is c) = no_type (is, c)
-no_name none no_enum no_struct no_type (struct_tag free types tag us q is r no) = no_struct q
-no_name none no_enum no_struct no_type (enum_tag free types tag us q is r no) = no_enum q
+no_name none no_enum no_struct no_type (struct_tag free types tag us q is r wrong) = no_struct q
+no_name none no_enum no_struct no_type (enum_tag free types tag us q is r wrong) = no_enum q
 no_name none no_enum no_struct no_type (enum_body free more types types' tag items us vs q w v) = no_enum q
 
 pub no_struct : {outer free free' : Bool} {text : List ℕ} {ts us : List Sign} {types types' : List (List ℕ)} {seen seen' : Typed} {spec : Specifier} →
     text ≡ codes "struct" → NoTag ts → SpecifierRead outer text ts free types seen spec free' types' seen' us → ⊥
-no_struct h none (struct_tag free types tag us q is r no) = none tag us is r no
+no_struct h none (struct_tag free types tag us q is r wrong) = none tag us is r wrong
 no_struct {text = text} h none w = omega (arith, class_told w, class_struct text h)
 
 -- no enumeration: no tag alone, and no enumerators
@@ -106,9 +106,9 @@ pub no_enumeration : {outer free free' : Bool} {text : List ℕ} {ts us : List S
     text ≡ codes "enum" → NoTag ts →
     ((tag : Option (List ℕ)) (vs : List Sign) → TagRead ts tag vs → (items : List (List ℕ × Option Exp)) (more : Bool) (behind : List (List ℕ)) (left : List Sign) → EnumeratorsRead types vs items more behind left → ⊥) →
     SpecifierRead outer text ts free types seen spec free' types' seen' us → ⊥
-no_enumeration h none no (enum_tag free types tag us q is r closed) = none tag us is r closed
-no_enumeration h none no (enum_body free more types types' tag items us vs q w v) = no tag us w items more types' vs v
-no_enumeration {text = text} h none no w = omega (arith, class_told w, class_enum text h)
+no_enumeration h none wrong (enum_tag free types tag us q is r closed) = none tag us is r closed
+no_enumeration h none wrong (enum_body free more types types' tag items us vs q w v) = wrong tag us w items more types' vs v
+no_enumeration {text = text} h none wrong w = omega (arith, class_told w, class_enum text h)
 
 -- what one specifier comes to
 pub record Same (spec spec' : Specifier) (free free' : Bool) (types types' : List (List ℕ)) (seen seen' : Typed) (us vs : List Sign) : Type 0 where
@@ -161,8 +161,8 @@ specifier_word a b c d (by_type h) = d h
 
 -- no body opens where neither a brace nor a name stands, or no brace behind the name
 pub tag_none : {ts : List Sign} → (Begins brace ts → ⊥) → ((name : List ℕ) → BeginsName name ts → ⊥) → (tag : Option (List ℕ)) (us : List Sign) → TagRead ts tag us → ⊥
-tag_none none no tag us (no_tag us' q) = none (subst (Begins brace) (sym q) refl)
-tag_none none no tag us (tagged name us' is q) = no name (is, subst (Begins (word name)) (sym q) refl)
+tag_none none wrong tag us (no_tag us' q) = none (subst (Begins brace) (sym q) refl)
+tag_none none wrong tag us (tagged name us' is q) = wrong name (is, subst (Begins (word name)) (sym q) refl)
 
 pub tag_open : {ts vs : List Sign} {name : List ℕ} → ts ≡ word name ∷ vs → (Begins brace vs → ⊥) → (tag : Option (List ℕ)) (us : List Sign) → TagRead ts tag us → ⊥
 tag_open q none tag us w = tag_closed q none w
@@ -180,7 +180,7 @@ stands_word w = subst BeginsWord (sym w.first) refl
 -- what stands behind the word at the front
 pub stands_reads : {outer free free' : Bool} {types types' : List (List ℕ)} {seen seen' : Typed} {signs ts us : List Sign} {text : List ℕ} {spec : Specifier} →
     signs ≡ word text ∷ ts → SpecifierStands outer free types seen signs spec free' types' seen' us → SpecifierRead outer text ts free types seen spec free' types' seen' us
-stands_reads {outer = outer} {free = free} {free' = free'} {types = types} {types' = types'} {seen = seen} {seen' = seen'} {text = text} {us = us} {spec = spec} q w =
+stands_reads {outer = outer} {free = free} {free' = free'} {types = types} {types' = types'} {seen = seen} {seen' = seen'} {us = us} {text = text} {spec = spec} q w =
     let p = same_word (sym w.first ∙ q) in
     subst (λ z. SpecifierRead outer text z free types seen spec free' types' seen' us) p.1
     (subst (λ z. SpecifierRead outer z w.behind free types seen spec free' types' seen' us) p.0 w.reads)
