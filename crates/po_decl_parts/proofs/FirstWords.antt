@@ -1,12 +1,11 @@
 -- One specifier at the front of signs.
-use Rattle.std.proofs.Common.{◌≡◌, ◌∙◌, ℕ, List, [], ◌∷◌, Bool, true, false, true≢false, IsTrue, refl, sym, ap, subst, codes, arith}
+use Rattle.std.proofs.Common.{◌≡◌, ◌∙◌, ℕ, List, ◌∷◌, Bool, false, true≢false, refl, sym, ap, subst, codes, arith}
 use Rattle.std.specs.Prelude.{Contains, Option, Some, None}
-use Rattle.po_base.specs.declared.token.TokenKind.{TokenKind}
 use Rattle.po_base.specs.declared.token.TokenKind.TheVariants as k
 use Rattle.po_tree.specs.declared.expression.Exp.{Exp}
 use Rattle.po_tree.specs.declared.expression.Specifier.{Specifier}
 use Rattle.po_tree.specs.declared.expression.Specifier.TheVariants as sp
-use Rattle.po_tree.specs.Signs.{Sign, word, punct, brace}
+use Rattle.po_tree.specs.Signs.{Sign, word, brace}
 use Rattle.po_tree.specs.Words.{IsName, storage_classes, type_words, qualifiers}
 use Rattle.po_tree.specs.Expressions.{Typed, untyped, TakesWord}
 use Rattle.po_exp_read.specs.OneSpecifier.{BeginsName}

@@ -1,10 +1,9 @@
 -- Enumerators, one after the other.
 use Rattle.std.proofs.Common.{◌≡◌, ◌∙◌, ℕ, List, [], ◌∷◌, ◌++◌, Bool, true, false, refl, sym, ap, subst, codes}
 use Rattle.std.specs.Prelude.{Option, Some, None}
-use Rattle.po_base.specs.declared.token.TokenKind.{TokenKind}
 use Rattle.po_base.specs.declared.token.TokenKind.TheVariants as k
 use Rattle.po_tree.specs.declared.expression.Exp.{Exp}
-use Rattle.po_tree.specs.Signs.{Sign, word, punct, comma, equals, brace_end}
+use Rattle.po_tree.specs.Signs.{Sign, word, comma, equals, brace_end}
 use Rattle.po_tree.specs.Declarations.{without}
 use Rattle.po_tree.specs.Words.{IsName}
 use Rattle.po_exp_read.specs.OneSpecifier.{BeginsName}

@@ -1,6 +1,6 @@
 -- Expressions under the same typedef names, in whatever order and however often these stand in the list.
-use Rattle.std.proofs.Common.{◌≡◌, ℕ, List, ◌∷◌}
-use Rattle.std.specs.Prelude.{Contains, Option}
+use Rattle.std.proofs.Common.{◌≡◌, ℕ, List}
+use Rattle.std.specs.Prelude.{Option}
 use Rattle.po_tree.specs.declared.expression.Exp.{Exp}
 use Rattle.po_tree.specs.declared.expression.Specifier.{Specifier}
 use Rattle.po_tree.specs.declared.expression.Suffix.{Suffix}

@@ -1,19 +1,18 @@
 -- What is read is well formed and printed, and what is printed is read.
-use Rattle.std.proofs.Common.{◌≡◌, ◌≢◌, ◌∙◌, ℕ, ◌≤◌, List, [], ◌∷◌, ◌++◌, map, flat_map, Bool, true, false, cond, refl, sym, ap, subst, arith, append_assoc, append-nil, codes}
+use Rattle.std.proofs.Common.{◌≡◌, ◌∙◌, ℕ, ◌≤◌, List, [], ◌∷◌, ◌++◌, map, flat_map, Bool, true, false, cond, refl, sym, ap, subst, arith, append_assoc, append-nil, codes}
 use Rattle.std.specs.Prelude.{Contains, All, Option, Some, None}
 use Rattle.std.proofs.lemmas.List.Elements.{All-nil, All-cons, All-head, All-tail}
 use Rattle.po_base.specs.declared.token.TokenKind.TheVariants as k
 use Rattle.po_tree.specs.declared.expression.Exp.{Exp}
 use Rattle.po_tree.specs.Signs.{Sign, word, star, bracket, bracket_end, comma, equals, brace_end}
 use Rattle.po_tree.specs.Words.{IsName, qualifiers}
-use Rattle.po_tree.specs.Heights.{height, or_none, greatest}
-use Rattle.po_tree.specs.Printing.{flat, prints_star, in_brackets, optional, with_commas, after_commas}
+use Rattle.po_tree.specs.Heights.{height, or_none}
+use Rattle.po_tree.specs.Printing.{flat, prints_star, with_commas, after_commas}
 use Rattle.po_tree.specs.Expressions.{IsExpression, Formed, SizesFormed, no_more_sizes, no_size as formed_no_size, one_size as formed_one_size}
 use Rattle.po_tree.specs.Declarations.{without, Enumerators, no_more_items, item as plain_item, valued_item}
-use Rattle.po_exp_read.specs.Longest.{StandsAt, at_comma as comma_ends, at_brace as brace_ends}
+use Rattle.po_exp_read.specs.Longest.{at_comma as comma_ends, at_brace as brace_ends}
 use Rattle.po_exp_read.specs.TypeWords.{Begins}
 use Rattle.po_exp_read.specs.Places.{sizes_height}
-use Rattle.po_decl_parts.specs.Constants.{BeginsEnd, ConstantStands}
 use Rattle.po_decl_parts.specs.Stars.{BeginsQualifier, QualifiersRead, no_qualifier, one_qualifier, StarsRead, no_star, one_star}
 use Rattle.po_decl_parts.specs.Printed.{NoQualifierBehind, StarsPrinted, flat_sizes, SizesPrinted, EnumeratorsPrinted}
 use Rattle.po_decl_parts.specs.Sizes.{SizesRead, sizes_end, no_size, one_size}
@@ -99,7 +98,7 @@ sizes_complete us (formed_no_size sizes w) low none = no_size sizes _ us (sizes_
 sizes_complete {types = types} us (formed_one_size m x sizes high formed w) low none =
     let behind : List Sign = flat_sizes sizes ++ us in
     let same : (flat x ++ bracket_end ∷ []) ++ flat_sizes sizes ++ us ≡ flat x ++ (bracket_end ∷ behind) =
-        append_assoc (flat x ++ bracket_end ∷ []) (flat_sizes sizes) us ∙ append_assoc (flat x) (bracket_end ∷ []) behind in
+    append_assoc (flat x ++ bracket_end ∷ []) (flat_sizes sizes) us ∙ append_assoc (flat x) (bracket_end ∷ []) behind in
     one_size x sizes _ behind us
     (record { stands = record { formed = record { level_of = m; formed = formed; nested = omega (arith, low) }; printed = same }; high = high })
     (sizes_complete us w (omega (arith, low)) none)
@@ -223,7 +222,7 @@ further_reads : {types types' : List (List ℕ)} {item next : List ℕ × Option
 further_reads {types = types} {types' = types'} {item = item} {next = next} {items = items} us more reads w =
     let behind : List Sign = flat_enumerators (next ∷ items) more ++ (brace_end ∷ us) in
     let same : flat_enumerator item ++ (comma ∷ behind) ≡ flat_enumerators (item ∷ (next ∷ items)) more ++ (brace_end ∷ us) =
-        with_others (flat_enumerator item) (with_commas (map flat_enumerator (next ∷ items))) (cond more (comma ∷ []) []) (brace_end ∷ us) comma in
+    with_others (flat_enumerator item) (with_commas (map flat_enumerator (next ∷ items))) (cond more (comma ∷ []) []) (brace_end ∷ us) comma in
     subst (λ v. EnumeratorsRead types v (item ∷ (next ∷ items)) more types' us) same (further types types' item (next ∷ items) more _ behind us (reads.at_comma behind) w)
 
 pub items_complete : {types types' : List (List ℕ)} {item : List ℕ × Option Exp} {items : List (List ℕ × Option Exp)} (us : List Sign) (more : Bool) →

@@ -1,21 +1,19 @@
 -- A specifier that is read is well formed and printed, and one that is printed is read.
-use Rattle.std.proofs.Common.{◌≡◌, ◌∙◌, ℕ, ◌≤◌, List, [], ◌∷◌, ◌++◌, map, Bool, true, false, cond, refl, sym, ap, subst, arith, append_assoc, codes}
+use Rattle.std.proofs.Common.{◌≡◌, ◌∙◌, ℕ, ◌≤◌, List, [], ◌∷◌, ◌++◌, map, Bool, false, cond, refl, sym, ap, subst, arith, codes}
 use Rattle.std.specs.Prelude.{Option, Some, None}
 use Rattle.po_tree.specs.declared.expression.Exp.{Exp}
 use Rattle.po_tree.specs.declared.expression.Exp.TheOpen.{Specifier-F}
-use Rattle.po_tree.specs.declared.expression.Member.{Member}
 use Rattle.po_tree.specs.declared.expression.Specifier.{Specifier, fold-roll-Specifier}
 use Rattle.po_tree.specs.declared.expression.Specifier.TheVariants as sp
 use Rattle.po_tree.specs.Signs.{Sign, word, brace, brace_end, comma}
-use Rattle.po_tree.specs.Words.{IsName}
 use Rattle.po_tree.specs.Printing.{flat, flat_specifier, optional, with_commas, in_braces, prints_enumerator, prints_exp, prints_specifier, prints_suffix, prints_declarator, prints_member, prints_param, prints_type}
-use Rattle.po_tree.specs.Heights.{height, specifier_height, greatest, or_none, enumerator_height, rises_exp, rises_specifier, rises_suffix, rises_declarator, rises_member, rises_param, rises_type}
+use Rattle.po_tree.specs.Heights.{height, specifier_height, greatest, enumerator_height, rises_exp, rises_specifier, rises_suffix, rises_declarator, rises_member, rises_param, rises_type}
 use Rattle.po_tree.specs.Layers.{flat_specifier-Word, flat_specifier-Named, flat_specifier-struct, flat_specifier-enum, specifier_height-Word, specifier_height-Named, specifier_height-struct, specifier_height-enum}
 use Rattle.po_tree.specs.Expressions.{Typed, untyped, by_words, by_name}
 use Rattle.po_tree.specs.Declarations as de
 use Rattle.po_tree.specs.Declarations.{Specs, IsTag}
 use Rattle.po_exp_read.specs.TypeWords.{Begins}
-use Rattle.po_decl_parts.specs.Enumerators.{EnumeratorsRead, flat_enumerator, flat_enumerators, enumerators_height}
+use Rattle.po_decl_parts.specs.Enumerators.{flat_enumerator, flat_enumerators, enumerators_height}
 use Rattle.po_decl_parts.specs.Printed.{SpecifierPrinted, BeginsSpecifiers, HasMembers}
 use Rattle.po_decl_parts.specs.Specifiers.{TagRead, no_tag, tagged, SpecifierStands, SpecifierRead, storage_class, inline_word, qualifier, type_word, typedef_name, struct_tag, enum_tag, enum_body}
 use Rattle.po_decl_parts.proofs.Printed.{items_sound, items_complete, enclosed}
@@ -119,38 +117,52 @@ pub specifier_complete : {outer free : Bool} {types last : List (List ℕ)} {see
     Specs outer free types seen (spec ∷ rest) last sort → specifier_height spec ≤ 256 → signs ≡ flat_specifier spec ++ us → (Begins brace us → ⊥) → (HasMembers spec → ⊥) →
     BeginsSpecifiers outer free types seen signs spec us rest last sort
 specifier_complete us (de.storage_class outer types types' seen seen' text rest h w) low q none wrong = record {
-  free' = false; types' = types; seen' = seen;
+  free' = false;
+  types' = types;
+  seen' = seen;
   stands = record { text = text; behind = us; first = q ∙ ap (λ v. v ++ us) (flat_specifier-Word text); reads = storage_class types seen h };
   others = w;
 }
 specifier_complete us (de.inline_word outer free types types' seen seen' rest is w) low q none wrong = record {
-  free' = free; types' = types; seen' = seen;
+  free' = free;
+  types' = types;
+  seen' = seen;
   stands = record { text = codes "inline"; behind = us; first = q ∙ ap (λ v. v ++ us) (flat_specifier-Word (codes "inline")); reads = inline_word free types seen refl is };
   others = w;
 }
 specifier_complete us (de.qualifier outer free types types' seen seen' text rest h w) low q none wrong = record {
-  free' = free; types' = types; seen' = seen;
+  free' = free;
+  types' = types;
+  seen' = seen;
   stands = record { text = text; behind = us; first = q ∙ ap (λ v. v ++ us) (flat_specifier-Word text); reads = qualifier free types seen h };
   others = w;
 }
 specifier_complete us (de.type_word outer free types types' seen seen' text rest h t w) low q none wrong = record {
-  free' = free; types' = types; seen' = by_words;
+  free' = free;
+  types' = types;
+  seen' = by_words;
   stands = record { text = text; behind = us; first = q ∙ ap (λ v. v ++ us) (flat_specifier-Word text); reads = type_word free types seen h t };
   others = w;
 }
 specifier_complete us (de.typedef_name outer free types types' seen' name rest is c w) low q none wrong = record {
-  free' = free; types' = types; seen' = by_name;
+  free' = free;
+  types' = types;
+  seen' = by_name;
   stands = record { text = name; behind = us; first = q ∙ ap (λ v. v ++ us) (flat_specifier-Named name); reads = typedef_name free types is c };
   others = w;
 }
 specifier_complete us (de.struct_tag outer free types types' seen' tag rest is w) low q none wrong = record {
-  free' = free; types' = types; seen' = by_name;
+  free' = free;
+  types' = types;
+  seen' = by_name;
   stands = record { text = codes "struct"; behind = word tag ∷ us; first = q ∙ ap (λ v. v ++ us) (flat_specifier-struct tag); reads = struct_tag free types tag us refl is refl none };
   others = w;
 }
 specifier_complete us (de.struct_body outer free types inner types' seen' tag m ms rest is inside w) low q none wrong = absurd (wrong (tag, m ∷ ms, refl))
 specifier_complete us (de.enum_tag outer free types types' seen' tag rest is w) low q none wrong = record {
-  free' = free; types' = types; seen' = by_name;
+  free' = free;
+  types' = types;
+  seen' = by_name;
   stands = record { text = codes "enum"; behind = word tag ∷ us; first = q ∙ ap (λ v. v ++ us) (flat_specifier-enum tag); reads = enum_tag free types tag us refl is refl none };
   others = w;
 }
@@ -159,7 +171,9 @@ specifier_complete us (de.enum_body outer free more types inner types' seen' tag
     let body : List Sign = flat_enumerators (item ∷ items) more ++ (brace_end ∷ us) in
     let printed : (name ++ in_braces (flat_enumerators (item ∷ items) more)) ++ us ≡ name ++ (brace ∷ body) = sym (enclosed name (flat_enumerators (item ∷ items) more) us brace brace_end) in
     let h = specifier_height-body tag (item ∷ items) more in record {
-      free' = free; types' = inner; seen' = by_name;
+      free' = free;
+      types' = inner;
+      seen' = by_name;
       stands = record {
         text = codes "enum";
         behind = name ++ (brace ∷ body);

@@ -58,6 +58,9 @@ no_word q b = subst BeginsWord q b
 pub other_word : {signs ts : List Sign} {sign : Sign} → signs ≡ sign ∷ ts → (sign.kind ≡ k.Word → ⊥) → BeginsWord signs → ⊥
 other_word q none b = none (subst BeginsWord q b)
 
+pub word_first : {signs ts : List Sign} {sign : Sign} (text : List ℕ) → signs ≡ sign ∷ ts → sign ≡ word text → signs ≡ word text ∷ ts
+word_first {ts = ts} text q w = q ∙ ap (λ v. v ∷ ts) w
+
 -- what is known of an answer that may be none
 
 pub match_map : {T P R : Type 0} {Q S : T → Type 0} (x : Option T) → (P → R) → ((t : T) → Q t → S t) → MatchOption x P Q → MatchOption x R S

@@ -4,9 +4,9 @@ use Rattle.po_tree.specs.declared.expression.Exp.{Exp}
 use Rattle.po_tree.specs.declared.expression.Member.{Member}
 use Rattle.po_tree.specs.declared.expression.Specifier.{Specifier}
 use Rattle.po_tree.specs.declared.expression.Specifier.TheVariants as sp
-use Rattle.po_tree.specs.Signs.{Sign, star, bracket, brace, brace_end}
+use Rattle.po_tree.specs.Signs.{Sign, star, bracket, brace_end}
 use Rattle.po_tree.specs.Printing.{flat, flat_specifier, prints_star, in_brackets, optional}
-use Rattle.po_tree.specs.Heights.{height, specifier_height}
+use Rattle.po_tree.specs.Heights.{specifier_height}
 use Rattle.po_tree.specs.Expressions.{Typed, SizesFormed}
 use Rattle.po_tree.specs.Declarations.{AreStars, Enumerators, Specs}
 use Rattle.po_exp_read.specs.Places.{sizes_height}

@@ -112,11 +112,7 @@ fn tag_at(tokens: &Tokens, at: u32, to: u32) -> Result<Option<(Option<Text>, u32
 
 /// The beginning of a struct's body at a place, with its tag where one is written (C99 6.7.2.1), and the place behind its brace; None
 /// exactly where none begins there.
-pub fn opening_at(
-    tokens: &Tokens,
-    at: u32,
-    to: u32,
-) -> Result<Option<(Option<Text>, u32)>, Memory>
+pub fn opening_at(tokens: &Tokens, at: u32, to: u32) -> Result<Option<(Option<Text>, u32)>, Memory>
     ensures found { IfOk result (λ found. IfSome found (λ p. Opens (signs_between tokens.now.list at to) p.0 (signs_between tokens.now.list p.1 to))) }
     ensures within { IfOk result (λ found. IfSome found (λ p. (at < p.1) × (p.1 ≤ to) × (p.1 ≤ length tokens.now.list))) }
     ensures none { IfOk result (λ found. IfNone found ((tag : _) (left : _) → Opens (signs_between tokens.now.list at to) tag left → ⊥)) }
@@ -318,8 +314,7 @@ pub fn specifier_at(
         return Ok(None);
     };
     let next = at + 1;
-    let Some(found) =
-        specifier_behind(alloc, tokens, text, next, to, outer, free, seen, names)?
+    let Some(found) = specifier_behind(alloc, tokens, text, next, to, outer, free, seen, names)?
     else {
         return Ok(None);
     };

@@ -1,4 +1,3 @@
-use Rattle.std.proofs.Common.{refl}
 use Rattle.po_exp_read.proofs.Telling.{none_told}
 use Rattle.po_decl_parts.proofs.Listed.{enumerator_name, plain_by, valued_by, no_value}
 use Rattle.po_decl_parts.proofs.enumerators.enumerator_at.Goals as goal

@@ -1,4 +1,4 @@
-use Rattle.std.proofs.Common.{◌∙◌, [], ◌∷◌, arith, refl}
+use Rattle.std.proofs.Common.{◌∙◌, arith, refl}
 use Rattle.std.specs.Prelude.{true, false}
 use Rattle.po_tree.specs.Declarations.{without}
 use Rattle.po_exp_read.proofs.Telling.{none_told}
@@ -8,7 +8,7 @@ use Rattle.po_decl_parts.proofs.Listed.{item_leads, no_items, open_items, closed
 use Rattle.po_decl_parts.proofs.enumerators.enumerators_at.Goals as goal
 
 pub loop-items-init : goal.loop-items-init
-loop-items-init c = record { leads = λ types s. (types, s, leads_start); kept = (refl, refl); after = omega arith }
+loop-items-init c = record { leads = λ types s. (types, s, rw c.new-items.ensures leads_start); kept = (refl, refl); after = omega arith }
 
 pub returns-in_default-clause-none : goal.returns-in_default-clause-none
 returns-in_default-clause-none c = λ types s items more behind left w.

@@ -1,4 +1,4 @@
-use Rattle.std.proofs.Common.{◌≡◌, ◌≤◌, ◌-◌, ℕ, List, length}
+use Rattle.std.proofs.Common.{◌≡◌, ◌≤◌, ◌-◌, ℕ, List}
 use Rattle.po_tree.specs.NameSets.{AreSame}
 use Rattle.po_exp_read.specs.Longest.{signs_between}
 use Rattle.po_decl_parts.proofs.Leading.{Leads}

@@ -1,5 +1,4 @@
-use Rattle.std.proofs.Common.{sym, subst, refl}
-use Rattle.po_exp_read.specs.Longest.{IsEnd, at_comma, at_semicolon, at_bracket, at_brace, at_colon, at_parenthesis}
+use Rattle.po_exp_read.specs.Longest.{at_comma, at_semicolon, at_bracket, at_brace, at_colon}
 use Rattle.po_decl_parts.proofs.Ends.{told_end, told_last}
 use Rattle.po_decl_parts.proofs.places.is_end.Goals as goal
 
@@ -19,4 +18,4 @@ pub returns-then-is_punct-5 : goal.returns-then-is_punct-5
 returns-then-is_punct-5 c = told_end at_colon c.if-is_punct-5.ensures
 
 pub returns : goal.returns
-returns c = told_last c.if-is_punct.ensures c.if-is_punct-2.ensures c.if-is_punct-3.ensures c.if-is_punct-4.ensures c.if-is_punct-5.ensures c.is_punct.ensures
+returns c = told_last c.if-is_punct.ensures c.if-is_punct-2.ensures c.if-is_punct-3.ensures c.if-is_punct-4.ensures c.if-is_punct-5.ensures c.is_punct-6.ensures

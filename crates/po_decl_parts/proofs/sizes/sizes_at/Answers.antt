@@ -1,4 +1,4 @@
-use Rattle.std.proofs.Common.{◌∙◌, ◌∷◌, ap, arith, refl}
+use Rattle.std.proofs.Common.{◌∙◌, ◌∷◌, ap, arith}
 use Rattle.po_tree.specs.Signs.{bracket}
 use Rattle.po_exp_read.proofs.Telling.{none_told}
 use Rattle.po_decl_parts.specs.Sizes.{sizes_end}

@@ -1,4 +1,4 @@
-use Rattle.std.proofs.Common.{arith, refl}
+use Rattle.std.proofs.Common.{refl}
 use Rattle.po_exp_read.proofs.Telling.{none_told}
 use Rattle.po_decl_parts.specs.Specifiers.{storage_class, inline_word, qualifier, type_word}
 use Rattle.po_decl_parts.proofs.FirstWords.{no_storage, no_inline, no_type_word, no_typed, specifier_word}
@@ -34,7 +34,7 @@ returns-then-is_type_word-clause-found c = λ types s.
 pub returns-then-not-is_untyped-clause-none : goal.returns-then-not-is_untyped-clause-none
 returns-then-not-is_untyped-clause-none c = λ types s spec free' behind seen' us w.
     no_typed (specifier_word (none_told (rw c.bytes.ensures at c.if-is_qualifier.ensures)) (none_told (rw c.bytes-2.ensures at c.if-is_storage_class.ensures))
-        (none_told c.if-is_word.ensures) (none_told (rw c.bytes-3.ensures at c.if-is_type_word.ensures)))
+    (none_told c.if-is_word.ensures) (none_told (rw c.bytes-3.ensures at c.if-is_type_word.ensures)))
     (none_told c.if-not-is_untyped.ensures) w
 
 pub returns-clause-found : goal.returns-clause-found
@@ -43,5 +43,5 @@ returns-clause-found c = λ types s. rw (c.if-not-is_untyped.ensures.0 refl) (c.
 pub returns-clause-none : goal.returns-clause-none
 returns-clause-none c = λ types s.
     rw (c.if-not-is_untyped.ensures.0 refl) (c.first_type.ensures.none c.args.outer types s
-        (specifier_word (none_told (rw c.bytes.ensures at c.if-is_qualifier.ensures)) (none_told (rw c.bytes-2.ensures at c.if-is_storage_class.ensures))
-            (none_told c.if-is_word.ensures) (none_told (rw c.bytes-3.ensures at c.if-is_type_word.ensures))))
+    (specifier_word (none_told (rw c.bytes.ensures at c.if-is_qualifier.ensures)) (none_told (rw c.bytes-2.ensures at c.if-is_storage_class.ensures))
+    (none_told c.if-is_word.ensures) (none_told (rw c.bytes-3.ensures at c.if-is_type_word.ensures))))

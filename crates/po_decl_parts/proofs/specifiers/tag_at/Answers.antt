@@ -1,4 +1,3 @@
-use Rattle.std.proofs.Common.{refl}
 use Rattle.po_exp_read.proofs.Telling.{none_told}
 use Rattle.po_decl_parts.specs.Specifiers.{no_tag}
 use Rattle.po_decl_parts.proofs.FirstWords.{tag_none, tag_open, tag_by}

@@ -1,4 +1,4 @@
-use Rattle.std.proofs.Common.{arith, refl}
+use Rattle.std.proofs.Common.{arith}
 use Rattle.po_exp_read.proofs.Telling.{none_told}
 use Rattle.po_decl_parts.specs.Stars.{no_star}
 use Rattle.po_decl_parts.proofs.Leading.{leads_on, leads_end}
