@@ -1,0 +1,12 @@
+pub mod Leading
+pub mod Standing
+pub mod Ends
+pub mod Classes
+pub mod Naming
+pub mod Endings
+pub mod Starred
+pub mod Bracketed
+pub mod Listed
+pub mod FirstWords
+pub mod Printed
+pub mod PrintedSpecifiers

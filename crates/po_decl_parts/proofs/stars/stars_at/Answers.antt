@@ -1,0 +1,21 @@
+use Rattle.std.proofs.Common.{arith}
+use Rattle.po_exp_read.proofs.Telling.{none_told}
+use Rattle.po_decl_parts.specs.Stars.{no_star}
+use Rattle.po_decl_parts.proofs.Leading.{leads_on, leads_end}
+use Rattle.po_decl_parts.proofs.Starred.{star_leads}
+use Rattle.po_decl_parts.proofs.stars.stars_at.Goals as goal
+
+pub loop-alloc-preserved : goal.loop-alloc-preserved
+loop-alloc-preserved c =
+    let i = c.loop-alloc.invariant in
+    let here = c.loop-alloc-test.ensures.behind in
+    let inside = c.loop-alloc-test.ensures.within in
+    let words = c.in_ok-words.ensures in
+    rw c.in_ok-push.ensures.ok (record {
+      leads = leads_on i.leads (star_leads here words.found);
+      after = omega (arith, i.after, words.after);
+      within = λ a b. words.within (omega (arith, inside.0)) (omega (arith, inside.1));
+    })
+
+pub returns-clause-found : goal.returns-clause-found
+returns-clause-found c = leads_end c.loop-alloc.invariant.leads (no_star _ (none_told c.loop-alloc-test.ensures.first))
