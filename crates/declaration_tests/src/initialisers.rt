@@ -23,7 +23,7 @@ fn found(alloc: Global, text: &[u8]) -> Result<Option<(Init, u32)>, Memory> {
 }
 
 /// Writes items: `x` for an expression, and for braces the number of their items.
-fn put_items(out: &mut Vec<u8>, items: &List<Init>) -> Result<(), Memory> {
+fn put_items(out: &mut List<u8>, items: &List<Init>) -> Result<(), Memory> {
     for item in items.as_slice() {
         match item {
             Init::One(_) => out.push(b'x')?,
@@ -34,8 +34,8 @@ fn put_items(out: &mut Vec<u8>, items: &List<Init>) -> Result<(), Memory> {
 }
 
 /// How an initialiser is made: `x` for an expression; for braces their items, and a comma where one stands behind the last.
-fn shape(alloc: Global, x: Init) -> Result<Vec<u8>, Memory> {
-    let mut out = Vec::new(alloc);
+fn shape(alloc: Global, x: Init) -> Result<List<u8>, Memory> {
+    let mut out = List::new(alloc);
     match x.into_parts() {
         InitParts::Value(_) => out.push(b'x')?,
         InitParts::Braces(items, more) => {
@@ -105,12 +105,14 @@ fn nested(
     text: &[u8],
     closing: u8,
     depth: u32,
-) -> Result<Vec<u8>, Memory> {
-    let mut out = Vec::new(alloc);
+) -> Result<List<u8>, Memory> {
+    let mut out = List::new(alloc);
     for _ in 0..depth {
         out.push(opening)?;
     }
-    out.extend_from_slice(text)?;
+    for byte in text {
+        out.push(*byte)?;
+    }
     for _ in 0..depth {
         out.push(closing)?;
     }
@@ -121,17 +123,17 @@ fn nested(
 #[test]
 fn a_million_braces_are_read_and_let_go(rt: HostRuntime) -> Result<(), Fail> {
     let text = nested(rt.alloc(), b'{', b"1", b'}', 1_000_000)?;
-    assert!(rt; is_read(rt.alloc(), &text, b"{1}", 2_000_001)?);
+    assert!(rt; is_read(rt.alloc(), text.as_slice(), b"{1}", 2_000_001)?);
     let open = nested(rt.alloc(), b'{', b"{1,2}", b')', 1_000_000)?;
-    assert!(rt; found(rt.alloc(), &open)?.is_none());
+    assert!(rt; found(rt.alloc(), open.as_slice())?.is_none());
     Ok(())
 }
 
 #[test]
 fn expressions_are_read_to_the_depth_of_256(rt: HostRuntime) -> Result<(), Fail> {
     let deepest = nested(rt.alloc(), b'(', b"1", b')', 255)?;
-    assert!(rt; is_read(rt.alloc(), &deepest, b"x", 511)?);
+    assert!(rt; is_read(rt.alloc(), deepest.as_slice(), b"x", 511)?);
     let deeper = nested(rt.alloc(), b'(', b"1", b')', 256)?;
-    assert!(rt; found(rt.alloc(), &deeper)?.is_none());
+    assert!(rt; found(rt.alloc(), deeper.as_slice())?.is_none());
     Ok(())
 }
