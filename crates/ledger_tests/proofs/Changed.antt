@@ -1,9 +1,9 @@
 -- Marks that are changed one after the other.
-use Rattle.std.proofs.Common.{◌≡◌, ◌⊎◌, ℕ, suc, ◌+◌, ◌<◌, ◌≤◌, List, [], ◌∷◌, length, map, get_or, set, refl, sym, ◌∙◌, ap, subst, inl, inr, arith, get_or-set_same, get_or-set_other}
+use Rattle.std.proofs.Common.{◌≡◌, ◌⊎◌, ℕ, suc, ◌+◌, ◌<◌, ◌≤◌, List, [], ◌∷◌, ◌++◌, length, map, take, drop, get_or, set, refl, sym, ◌∙◌, ap, subst, inl, inr, arith, get_or-set_same, get_or-set_other}
 use Rattle.std.specs.Prelude.{◌↔◌}
 use Rattle.std.specs.List.{Contains}
 use Rattle.std.proofs.lemmas.Bool.{cases_eq}
-use Rattle.std.proofs.lemmas.List.{get_or_default}
+use Rattle.std.proofs.lemmas.List.{get_or_default, length-map, take_at}
 use Rattle.std.proofs.lemmas.List.Elements.{Contains-get_or}
 use Rattle.po_core.specs.declared.event.Mark.{Mark}
 use Rattle.po_core.specs.declared.obl.Obl.{Obl}
@@ -120,3 +120,11 @@ remarked_as {P} {N} W V from to old new alike r = record {
     ]),
   );
 }
+
+-- marks that were lent as a slice, as they are written back
+pub written : {P N : Type 0} (W : Obl P → Type 0) (from to : Mark P N) (old slice new : List (Obl P × Mark P N)) (n : ℕ) → slice ≡ old → length slice ≡ n → AreRemarked W from to slice new → AreRemarked W from to old (take n (new ++ drop (length new) old))
+written {P} {N} W from to old slice new n same many r =
+    let key : (Obl P × Mark P N) → Obl P = λ e. e.0 in
+    let long : length new ≡ length slice = sym (length-map new key) ∙ (ap length r.keys ∙ length-map slice key) in
+    let back : take n (new ++ drop (length new) old) ≡ new = take_at new (drop (length new) old) n (long ∙ many) in
+    subst (λ (z : List (Obl P × Mark P N)). AreRemarked W from to old z) (sym back) (subst (λ (z : List (Obl P × Mark P N)). AreRemarked W from to z new) same r)

@@ -120,3 +120,6 @@ first_post {P} b worker old new t u v q h same judges is =
       open_item = ap (λ (z : List (Obl P × Bool)). slice_get z 0) same.hand ∙ (judges.1.1 ∙ ap (λ (z : Bool). let y : Option (Obl P × Bool) = Some (judges.0, z) in y) open_here);
       verdict = sym judges.2 ∙ is;
     }
+
+pub post_again : {P N T : Type 0} (b : Book P N T) (l old : LedgerView P N T) (t u : TicketView P T) (k : ℕ) (q : P) → l ≡ old → u ≡ t → CanPost b old.state t k q → CanPost b l.state u k q
+post_again {P} {N} {T} b l old t u k q same of_ticket can = subst (λ (z : TicketView P T). CanPost b l.state z k q) (sym of_ticket) (subst (λ (z : LedgerView P N T). CanPost b z.state t k q) (sym same) can)

@@ -51,6 +51,10 @@ book_of functions more_files is_circle is_twice silent open_at = record {
   assumable = 7 ∷ 8 ∷ [];
 }
 
+-- three functions in one file that call each other in a circle, each at two nodes, and all of which ask
+abbrev pub calls : Book ℕ ℕ ℕ
+calls = book_of 3 0 true true 0 9
+
 -- who calls is there
 site_of : (is_twice : Bool) (g : Option FunNo) (n : ℕ) → ((h : FunNo) → g ≡ Some h → h.0 < n) → (s : FunNo × NodeNo) → Has (sites is_twice g) s → s.0.0 < n
 site_of is_twice None n there s h = absurd h

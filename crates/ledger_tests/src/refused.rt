@@ -1,4 +1,5 @@
 ghost use Rattle.std.specs.Prelude.{◌<◌, length};
+ghost use Rattle.ledger_tests.specs.Rows.{calls};
 ghost use Rattle.po_ledger.specs.Calls.{CanPost};
 
 use crate::row::Row;
@@ -22,10 +23,9 @@ const CALLS: Row = Row {
 struct OfCalls;
 
 impl Naming<u8, u8, u32> for OfCalls {
-    ghost use Rattle.std.specs.Prelude.{true};
-    ghost use Rattle.ledger_tests.specs.Rows.{book_of};
+    ghost use Rattle.ledger_tests.specs.Rows.{calls};
 
-    ghost book = { book_of 3 0 true true 0 9 };
+    ghost book = { calls };
 }
 
 /// What a ledger shows: how much is known, whether its file is held, whether all is done, and how much is left.
@@ -51,7 +51,7 @@ fn stands(
     q: u8,
 ) -> bool
     requires within { 0 < length t.old.hand }
-    requires can { CanPost OfCalls.book ledger.old.state t.old 0 q }
+    requires can { CanPost calls ledger.old.state t.old 0 q }
 {
     let before = shown(alloc, ledger);
     match ledger.post(alloc, t, 0, &q) {
