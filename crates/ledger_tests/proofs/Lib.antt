@@ -1,0 +1,7 @@
+mod Changed
+mod Walked
+mod Totals
+mod Plain
+mod Lined
+mod Ascending
+mod Reported
