@@ -1,5 +1,7 @@
 use po_base::{Memory, Text, Tokens};
-use po_decl_parts::{Seen, constant_at, enumerators_at, opening_at, sizes_at, specifier_at, stars_at};
+use po_decl_parts::{
+    Seen, constant_at, enumerators_at, opening_at, sizes_at, specifier_at, stars_at,
+};
 use po_lex::{LexFail, tokens};
 use po_tree::Names;
 use std::alloc::Global;
