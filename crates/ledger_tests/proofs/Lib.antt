@@ -2,6 +2,3 @@ mod Changed
 mod Walked
 mod Totals
 mod Plain
-mod Lined
-mod Ascending
-mod Reported

@@ -1,6 +1,6 @@
 -- A ledger of plain lists: where it finds a file, and that it keeps no tables.
-use Rattle.std.proofs.Common.{◌≡◌, ℕ, zero, suc, ◌<◌, List, [], ◌∷◌, length, replicate, set, refl, sym, ◌∙◌, ap, subst, inl, inr, arith}
-use Rattle.std.specs.Prelude.{Option, Some, None, slice_get, IfSome, IfNone, IfOk, Result, Ok, Err, false, ◌↔◌, Bool}
+use Rattle.std.proofs.Common.{◌≡◌, ℕ, zero, suc, ◌<◌, List, [], ◌∷◌, length, replicate, set, refl, sym, ◌∙◌, ap, subst, arith}
+use Rattle.std.specs.Prelude.{Option, Some, None, slice_get, IfSome, IfNone, IfOk, Result, Ok, Err, false, Bool}
 use Rattle.std.specs.List.{Contains}
 use Rattle.std.proofs.lemmas.List.{length-replicate}
 use Rattle.std.specs.declared.cmp.Ordering.{Ordering}
@@ -10,7 +10,7 @@ use Rattle.po_core.specs.Book.{Book, file_of_obl}
 use Rattle.po_core.specs.Core.{CoreState, CanTake, IsHeld}
 use Rattle.po_core.specs.Least.{IsLeastReport}
 use Rattle.po_core.specs.declared.report.Report.{Report}
-use Rattle.po_core.specs.Lists.{contains, has}
+use Rattle.po_lists.proofs.Members.{contains, has, has_item}
 use Rattle.po_core.specs.declared.event.Hand.{Hand}
 use Rattle.po_core.specs.declared.event.Mark.{Mark}
 use Rattle.po_core.specs.declared.event.Mark.TheVariants.{Untaken, Taken}
@@ -20,11 +20,10 @@ use Rattle.po_core.specs.declared.obl.Verdict.TheVariants.{Delegated}
 use Rattle.po_ledger.specs.Answers.{Reports}
 use Rattle.po_ledger.specs.declared.next.ReportFail.{ReportFail}
 use Rattle.po_ledger.specs.Calls.{CanPost, HandsOut, Judges, KeepsTicket}
-use Rattle.po_ledger.specs.Hands.{IsDue, IsSettledUpTo, SettlesFront}
+use Rattle.po_ledger.specs.Hands.{IsDue, SettlesFront}
 use Rattle.po_ledger.specs.Parts.{AreRemarked, HandAt, TakesFrom}
 use Rattle.po_ledger.specs.Shelves.{HandsTables}
 use Rattle.po_ledger.specs.View.{LedgerView, TicketView, AreTables, Fits}
-use Rattle.po_ledger.proofs.Settled.{got_in}
 use Rattle.po_worker.proofs.Draining.{fits_kept}
 use Rattle.ledger_tests.specs.Walks.{NoneTakeable}
 use Rattle.ledger_tests.proofs.Changed.{remarked_as}
@@ -113,7 +112,7 @@ handed_fits b worker old new t h = h.fits
 pub first_post : {P N T : Type 0} (b : Book P N T) (worker : ℕ) (old new : LedgerView P N T) (t u : TicketView P T) (v : Verdict P N) (q : P) → HandsOut b worker old new t → KeepsTicket t u → Judges b t 0 v → v ≡ Delegated q → CanPost b new.state u 0 q
 first_post {P} b worker old new t u v q h same judges is =
     let here : Obl P × Bool = (judges.0, judges.1.0) in
-    let open_here : judges.1.0 ≡ false = h.all_open judges.0 judges.1.0 (contains t.hand here (got_in t.hand 0 here judges.1.1)) in
+    let open_here : judges.1.0 ≡ false = h.all_open judges.0 judges.1.0 (contains t.hand here (has_item t.hand 0 here judges.1.1)) in
     record {
       fits = fits_kept b new.state t u same h.fits;
       item = judges.0;

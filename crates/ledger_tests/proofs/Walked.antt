@@ -1,19 +1,20 @@
 -- What walks over plain lists find.
-use Rattle.std.proofs.Common.{◌≡◌, ℕ, ◌+◌, ◌<◌, List, [], ◌∷◌, ◌++◌, length, map, take, get_or, refl, sym, ◌∙◌, ap, subst, inl, inr}
+use Rattle.std.proofs.Common.{◌≡◌, ℕ, ◌+◌, ◌<◌, List, [], ◌∷◌, ◌++◌, length, map, take, get_or, sym, ◌∙◌, ap, subst, inl, inr}
 use Rattle.std.specs.Prelude.{Option}
 use Rattle.std.specs.List.{Contains}
 use Rattle.std.proofs.lemmas.List.Elements.{Contains-append_left, Contains-push, Contains-push_cases}
 use Rattle.po_base.specs.declared.numbers.FileNo.{FileNo}
 use Rattle.po_core.specs.Book.{Book, file_of_obl}
 use Rattle.po_core.specs.Core.{AreApart}
-use Rattle.po_core.specs.Lists.{has}
+use Rattle.po_lists.proofs.Members.{has}
 use Rattle.po_core.specs.declared.event.Hand.{Hand}
 use Rattle.po_core.specs.declared.event.Mark.{Mark}
 use Rattle.po_core.specs.declared.event.Mark.TheVariants.{Untaken}
 use Rattle.po_core.specs.declared.obl.Obl.{Obl}
 use Rattle.po_ledger.specs.Parts.{HasKey, HandAt, TakesFrom}
-use Rattle.po_ledger.proofs.Lists.{apart_push, front_cases, front_last, front_more, key_once, read_in, take_read}
+use Rattle.po_ledger.proofs.Lists.{front_cases, front_last, front_more, key_once, read_in}
 use Rattle.ledger_tests.specs.Walks.{NoneTakeable, PushesUntaken}
+use Rattle.po_marks.proofs.Marked.{apart_push, take_read}
 
 -- what isn't found up to a place, nor at it
 pub not_yet : {X : Type 0} (xs : List X) (i : ℕ) (e x : X) → i < length xs → e ≡ get_or xs i e → ¬ Contains (take i xs) x → ¬ (e ≡ x) → ¬ Contains (take (i + 1) xs) x

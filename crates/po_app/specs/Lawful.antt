@@ -8,7 +8,7 @@ use Rattle.std.proofs.lemmas.List.Elements.{Contains-append_left, Contains-appen
 use Rattle.po_base.specs.declared.numbers.FunNo.{FunNo}
 use Rattle.po_base.specs.declared.numbers.NodeNo.{NodeNo}
 use Rattle.po_core.specs.Book.{IsBook}
-use Rattle.po_core.specs.Lists.{Has, has, contains, contains_map, contains_flat_map}
+use Rattle.po_lists.proofs.Members.{Has, has, contains, contains_map, contains_flat_map}
 use Rattle.po_core.specs.declared.obl.Obl.{Obl}
 use Rattle.po_core.specs.declared.obl.Verdict.TheVariants.{Closed, Delegated}
 use Rattle.po_ir.specs.declared.project.Function.{Function}

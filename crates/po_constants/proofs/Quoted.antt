@@ -4,7 +4,7 @@ use Rattle.std.specs.Prelude.{ℤ}
 use Rattle.std.proofs.lemmas.List.{length-drop}
 use Rattle.po_tree.specs.Literals.{first_character, Characters, end_quote, next_character}
 use Rattle.po_typed.specs.Constants.{IsCharacterOf, as_signed_char}
-use Rattle.po_typed.proofs.OneConstant.{one_some}
+use Rattle.po_lists.proofs.Options.{one_some}
 
 -- nothing but the quote
 pub one_left : (text : List ℕ) (at quote : ℕ) → drop at text ≡ quote ∷ [] → length text - at ≡ 1

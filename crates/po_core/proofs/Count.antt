@@ -13,8 +13,9 @@ use Rattle.po_core.specs.declared.obl.Verdict.{Verdict}
 use Rattle.po_core.specs.Marks.{settled_taken}
 use Rattle.po_core.proofs.Once.{stays_settled, runs_settled}
 use Rattle.po_core.proofs.Orderly.{Agrees, agrees_step, agrees_at_start}
-use Rattle.po_core.specs.Lists.{Has, has, apart_within}
+use Rattle.po_core.specs.Lists.{apart_within}
 use Rattle.po_core.proofs.Possible.{all_possible}
+use Rattle.po_lists.proofs.Members.{Has, has}
 
 module _ {P N T : Type 0} (b : Book P N T) (eq : P → P → Bool) (law : IsBook eq b) where
   -- the obligations that a list of events settles

@@ -14,7 +14,7 @@ use Rattle.po_core.specs.Decided.{obligations_decided, decided_by}
 use Rattle.po_core.specs.Marks.{settled_taken, settled_untaken, same_verdict}
 use Rattle.po_core.proofs.Remarks.{settled_before}
 use Rattle.po_core.proofs.Orderly.{Agrees, agrees_step, agrees_runs}
-use Rattle.po_core.specs.Lists.{has, contains}
+use Rattle.po_lists.proofs.Members.{has, contains}
 
 -- the event settles the obligation
 abbrev pub SettlesNow : {P N : Type 0} → Event P N → Obl P → Type 0

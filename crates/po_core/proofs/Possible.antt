@@ -14,7 +14,7 @@ use Rattle.po_core.specs.declared.event.Event.{Event}
 use Rattle.po_core.specs.declared.obl.Cause.{Cause}
 use Rattle.po_core.specs.declared.obl.Cause.TheVariants.{Primary, Support}
 use Rattle.po_core.specs.declared.obl.Obl.{Obl}
-use Rattle.po_core.specs.Lists.{Has, contains_map, contains_flat_map, flat_map_has}
+use Rattle.po_lists.proofs.Members.{Has, contains_map, contains_flat_map, flat_map_has}
 use Rattle.po_core.proofs.Inside.{IsInside, inside}
 
 functions_has : (n : ℕ) (f : FunNo) → f.0 < n → Has (functions_below n) f

@@ -17,7 +17,7 @@ use Rattle.po_core.specs.Decided.{IsDecided, both_decided, functions_decided, ob
 use Rattle.po_core.specs.Marks.{settled_untaken}
 use Rattle.po_core.proofs.Once.{settled_once}
 use Rattle.po_core.proofs.Orderly.{Agrees, agrees, agrees_at_start}
-use Rattle.po_core.specs.Lists.{has_from_map, Has, has, contains, contains_map}
+use Rattle.po_lists.proofs.Members.{has_from_map, Has, has, contains, contains_map}
 
 -- whether a list has an item, as a test
 module _ {X : Type 0} (decided : (x y : X) → IsDecided (x ≡ y)) where

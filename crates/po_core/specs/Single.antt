@@ -10,7 +10,7 @@ use Rattle.std.proofs.lemmas.Cmp.{nat_cmp_total}
 use Rattle.po_base.specs.declared.numbers.FunNo.{FunNo}
 use Rattle.po_core.specs.Book.{Book}
 use Rattle.po_core.specs.Least.{IsLeastReport}
-use Rattle.po_core.specs.Lists.{Has, contains, has}
+use Rattle.po_lists.proofs.Members.{Has, contains, has}
 use Rattle.po_core.specs.Order.{cause_cmp, obl_cmp, assumption_cmp}
 use Rattle.po_core.specs.declared.obl.Cause.{Cause}
 use Rattle.po_core.specs.declared.obl.Cause.TheVariants.{Primary, Support}

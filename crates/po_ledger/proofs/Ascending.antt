@@ -24,6 +24,7 @@ use Rattle.po_core.specs.declared.event.Mark.{Mark}
 use Rattle.po_core.specs.declared.obl.Obl.{Obl}
 use Rattle.po_core.specs.declared.obl.Verdict.{Verdict}
 use Rattle.po_ledger.specs.Parts.{AreLines, AreSame, AreSorted, ListsVerdicts}
+use Rattle.po_lists.proofs.Orders.{both_equal}
 
 -- items that stand apart differ at any two places
 differ : {X : Type 0} (xs : List X) → AreApart xs → AllPairs (λ x y. x ≢ y) xs
@@ -74,11 +75,6 @@ sorted_alike one other alike key ys sorted k d low high = ap is_lt (sym (alike (
 
 nat_equal : (x y : ℕ) → nat_cmp x y ≡ Equal → x ≡ y
 nat_equal x y q = ranked x y Equal (sym q)
-
-both_equal : (a b : Ordering) → ordering_then a b ≡ Equal → (a ≡ Equal) × (b ≡ Equal)
-both_equal Less b q = absurd (cc)
-both_equal Equal b q = (refl, q)
-both_equal Greater b q = absurd (cc)
 
 module _ {P : Type 0} (by : P → P → Ordering) (total : IsTotalOrder by) (equal_are_same : (p q : P) → by p q ≡ Equal → p ≡ q) where
   cause_antisymm : (a b : Cause P) → cause_cmp by a b ≡ ordering_reverse (cause_cmp by b a)

@@ -1,5 +1,5 @@
 -- Assumptions, and call sites that were asked for.
-use Rattle.std.proofs.Common.{◌≡◌, ℕ, cond, map, List, [], ◌∷◌, ◌++◌, refl, sym, ◌∙◌, ap, subst, inl, inr}
+use Rattle.std.proofs.Common.{◌≡◌, ℕ, cond, List, [], ◌∷◌, ◌++◌, refl, sym, ◌∙◌, ap, subst, inl, inr}
 use Rattle.std.specs.Prelude.{Bool, true, false, IsTrue, ◌↔◌, ◌&&◌, ◌||◌, nat_eq, Some, slice_get}
 use Rattle.std.specs.List.{Contains, list_any}
 use Rattle.std.proofs.lemmas.Bool.{false≢true}
@@ -9,13 +9,11 @@ use Rattle.std.proofs.lemmas.List.Elements.{Contains-push_cases}
 use Rattle.po_base.specs.declared.numbers.FunNo.{FunNo}
 use Rattle.po_base.specs.declared.numbers.NodeNo.{NodeNo}
 use Rattle.po_core.specs.Book.{Book, IsSupport}
-use Rattle.po_core.specs.Core.{AreApart}
-use Rattle.po_core.specs.Lists.{Has, has, contains, has_from_map}
+use Rattle.po_lists.proofs.Members.{Has, has, contains, has_from_map, has_item}
 use Rattle.po_core.specs.declared.event.Mark.{Mark}
 use Rattle.po_core.specs.declared.obl.Cause.TheVariants.{Support}
 use Rattle.po_core.specs.declared.obl.Obl.{Obl}
-use Rattle.po_ledger.specs.Parts.{AddsEach, AddsItem, AreCallSites, HasKey, supports_of}
-use Rattle.po_ledger.proofs.Settled.{got_in}
+use Rattle.po_ledger.specs.Parts.{AddsEach, AreCallSites, HasKey, supports_of}
 
 pub call_sites_put : {P N T : Type 0} (b : Book P N T) (old new : List (FunNo × List (FunNo × NodeNo))) (f : FunNo) (sites : List (FunNo × NodeNo)) → AreCallSites b old → sites ≡ b.call_sites f → new ≡ old ++ (f, sites) ∷ [] → AreCallSites b new
 call_sites_put b old new f sites right asked is g s h = elim (Contains-push_cases old (f, sites) (g, s) (subst (λ (z : List (FunNo × List (FunNo × NodeNo))). Contains z (g, s)) is h)) [
@@ -24,7 +22,7 @@ call_sites_put b old new f sites right asked is g s h = elim (Contains-push_case
 ]
 
 pub call_sites_right : {P N T : Type 0} (b : Book P N T) (kept : List (FunNo × List (FunNo × NodeNo))) (at : ℕ) (read : List (FunNo × NodeNo)) (f : FunNo) → AreCallSites b kept → (s : List (FunNo × NodeNo)) × (slice_get kept at ≡ Some (f, s)) → ((g : FunNo) (s : List (FunNo × NodeNo)) → slice_get kept at ≡ Some (g, s) → read ≡ s) → read ≡ b.call_sites f
-call_sites_right b kept at read f right found is = is f found.0 found.1 ∙ right f found.0 (contains kept (f, found.0) (got_in kept at (f, found.0) found.1))
+call_sites_right b kept at read f right found is = is f found.0 found.1 ∙ right f found.0 (contains kept (f, found.0) (has_item kept at (f, found.0) found.1))
 
 -- a pair of a function and a predicate is compared part by part
 both : (a c : Bool) → IsTrue (a && c) → IsTrue a × IsTrue c

@@ -5,7 +5,7 @@ use Rattle.std.proofs.lemmas.Option.{slice_get_within}
 use Rattle.std.specs.List.{Contains}
 use Rattle.po_base.specs.declared.numbers.FileNo.{FileNo}
 use Rattle.po_core.specs.Core.{AreApart}
-use Rattle.po_core.specs.Lists.{Has, has, contains}
+use Rattle.po_lists.proofs.Members.{Has, has, contains}
 use Rattle.po_core.specs.declared.event.Hand.{Hand}
 use Rattle.po_ledger.specs.Calls.{Counts}
 use Rattle.po_ledger.specs.Parts.{HandAt}

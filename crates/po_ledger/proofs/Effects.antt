@@ -1,8 +1,6 @@
 -- What changed lists mean for the state that they are.
-use Rattle.std.proofs.Common.{◌≡◌, ◌≢◌, ◌⊎◌, ℕ, zero, suc, ◌<◌, List, [], ◌∷◌, ◌++◌, length, map, get_or, set, refl, sym, ◌∙◌, ap, subst, inl, inr, arith}
+use Rattle.std.proofs.Common.{◌≡◌, ◌≢◌, ℕ, ◌<◌, List, [], ◌∷◌, ◌++◌, length, set, refl, sym, ◌∙◌, ap, subst, inl, inr, arith}
 use Rattle.std.specs.Prelude.{Option, Some, None, slice_get, ◌↔◌}
-use Rattle.std.specs.List.{Contains}
-use Rattle.std.proofs.lemmas.List.Elements.{Contains-get_or}
 use Rattle.po_base.specs.declared.numbers.FileNo.{FileNo}
 use Rattle.po_core.specs.Book.{Book}
 use Rattle.po_core.specs.Core.{CoreState, HasMark, HasHand, KeepsOtherHands, Remarks, Steps, Runs, Replays}
@@ -10,19 +8,7 @@ use Rattle.po_core.specs.declared.event.Event.{Event}
 use Rattle.po_core.specs.declared.event.Hand.{Hand}
 use Rattle.po_core.specs.declared.event.Mark.{Mark}
 use Rattle.po_core.specs.declared.obl.Obl.{Obl}
-
--- what stands at a place after a write
-pub get_set_same : {X : Type 0} (xs : List X) (k : ℕ) (x : X) → k < length xs → slice_get (set xs k x) k ≡ Some x
-get_set_same [] k x l = absurd (omega arith)
-get_set_same (y ∷ ys) zero x l = refl
-get_set_same (y ∷ ys) (suc k) x l = get_set_same ys k x (omega arith)
-
-pub get_set_other : {X : Type 0} (xs : List X) (k j : ℕ) (x : X) → j ≢ k → slice_get (set xs k x) j ≡ slice_get xs j
-get_set_other [] k j x ne = refl
-get_set_other (y ∷ ys) zero zero x ne = absurd (ne refl)
-get_set_other (y ∷ ys) zero (suc j) x ne = refl
-get_set_other (y ∷ ys) (suc k) zero x ne = refl
-get_set_other (y ∷ ys) (suc k) (suc j) x ne = get_set_other ys k j x (λ q. ne (ap suc q))
+use Rattle.po_lists.proofs.Places.{get_set_same, get_set_other}
 
 -- a remark means others where those are the same among what it marks
 pub remarks_like : {P N : Type 0} (s t : CoreState P N) (W V : Obl P → Type 0) (old new : Mark P N) → ((o : Obl P) → HasMark s o old → W o ↔ V o) → Remarks s t W old new → Remarks s t V old new

@@ -6,9 +6,8 @@ use Rattle.std.proofs.lemmas.Option.{slice_get-get_or}
 use Rattle.po_base.specs.declared.numbers.FunNo.{FunNo}
 use Rattle.po_core.specs.Book.{Book}
 use Rattle.po_core.specs.declared.obl.Obl.{Obl}
-use Rattle.po_core.specs.Lists.{Has, has, contains}
+use Rattle.po_lists.proofs.Members.{Has, has, contains, has_item}
 use Rattle.po_ledger.specs.View.{TicketView, IsTicket, AreTables}
-use Rattle.po_ledger.proofs.Settled.{got_in}
 
 -- an item as it is read
 pub item_got : {X : Type 0} (inside now read : List X) (k : ℕ) (d : X) → inside ≡ now → k < length now → read ≡ inside → slice_get now k ≡ Some (get_or read k d)
@@ -27,7 +26,7 @@ set_cases (x ∷ xs) (suc k) v z (inr h) = elim (set_cases xs k v z h) [ inl q �
 pub ticket_kept : {P N T : Type 0} (b : Book P N T) (hand later : List (Obl P × Bool)) (tables : List (FunNo × T)) (k : ℕ) (e : Obl P × Bool) → IsTicket b hand tables → slice_get hand k ≡ Some e → later ≡ set hand k (e.0, true) → IsTicket b later tables
 ticket_kept {P} b hand later tables k e t q is = record {
   items_there = λ o x h. elim (set_cases hand k (e.0, true) (o, x) (has _ (o, x) (subst (λ (z : List (Obl P × Bool)). Contains z (o, x)) is h))) [
-    | inl s ↦ subst (λ (z : Obl P). z.fun.0 < b.functions) (sym (ap (λ (z : Obl P × Bool). z.0) s)) (t.items_there e.0 e.1 (contains hand e (got_in hand k e q)))
+    | inl s ↦ subst (λ (z : Obl P). z.fun.0 < b.functions) (sym (ap (λ (z : Obl P × Bool). z.0) s)) (t.items_there e.0 e.1 (contains hand e (has_item hand k e q)))
     | inr m ↦ t.items_there o x (contains hand (o, x) m)
   ];
   tables_right = t.tables_right;
@@ -41,7 +40,7 @@ ticket_with {P} {T} inside now h k o q is =
 pub item_there : {P N T : Type 0} (b of_book : Book P N T) (inside now : TicketView P T) (k : ℕ) (o : Obl P) → of_book ≡ b → inside ≡ now → IsTicket b inside.hand inside.tables → (x : Bool) × (slice_get now.hand k ≡ Some (o, x)) → o.fun.0 < of_book.functions
 item_there {P} {N} {T} b of_book inside now k o same seen t item =
     let here : slice_get inside.hand k ≡ Some (o, item.0) = ap (λ (z : TicketView P T). slice_get z.hand k) seen ∙ item.1 in
-    subst (λ (z : Book P N T). o.fun.0 < z.functions) (sym same) (t.items_there o item.0 (contains inside.hand (o, item.0) (got_in inside.hand k (o, item.0) here)))
+    subst (λ (z : Book P N T). o.fun.0 < z.functions) (sym same) (t.items_there o item.0 (contains inside.hand (o, item.0) (has_item inside.hand k (o, item.0) here)))
 
 pub tables_of : {P N T : Type 0} (b of_book : Book P N T) (tables : List (FunNo × T)) → of_book ≡ b → AreTables b tables → AreTables of_book tables
 tables_of {P} {N} {T} b of_book tables same h = subst (λ (z : Book P N T). AreTables z tables) (sym same) h

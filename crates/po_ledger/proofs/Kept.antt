@@ -16,13 +16,14 @@ use Rattle.po_core.specs.declared.event.Mark.{Mark}
 use Rattle.po_core.specs.declared.event.Mark.TheVariants.{Untaken, Taken, Settled}
 use Rattle.po_core.specs.declared.obl.Obl.{Obl}
 use Rattle.po_core.specs.declared.obl.Verdict.{Verdict}
-use Rattle.po_core.specs.Lists.{has}
+use Rattle.po_lists.proofs.Members.{has}
 use Rattle.po_core.specs.Marks.{same_hand, settled_taken, taken_untaken}
 use Rattle.po_ledger.specs.Calls.{Does}
 use Rattle.po_ledger.specs.Parts.{AreRemarked, TakesFrom}
 use Rattle.po_ledger.specs.View.{LedgerView, IsKept, IsRoomFor, AreTables}
-use Rattle.po_ledger.proofs.Effects.{remarks_like, other_hands_kept, now_held, now_free, replays_more, get_set_same, get_set_other}
+use Rattle.po_ledger.proofs.Effects.{remarks_like, other_hands_kept, now_held, now_free, replays_more}
 use Rattle.po_ledger.proofs.Room.{room_kept, room_settled, room_freed, room_taken}
+use Rattle.po_lists.proofs.Places.{get_set_same, get_set_other}
 
 -- a fact of the value that is seen
 pub does_seen : {P N T : Type 0} (b : Book P N T) (e : Event P N) (l old m : LedgerView P N T) → l ≡ old → Does b e l m → Does b e old m

@@ -13,9 +13,9 @@ pub mod Agreeing
 pub mod General
 pub mod WholeHand
 pub mod Counted
-mod Lined
-mod Ascending
-mod Reported
+pub mod Lined
+pub mod Ascending
+pub mod Reported
 mod Added
 pub mod Assuming
 pub mod Queued

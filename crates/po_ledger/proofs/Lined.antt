@@ -4,14 +4,15 @@ use Rattle.std.specs.List.{Contains}
 use Rattle.std.proofs.lemmas.List.{map-append}
 use Rattle.std.proofs.lemmas.List.Elements.{Contains-append_left, Contains-push, Contains-push_cases}
 use Rattle.po_core.specs.Core.{AreApart}
-use Rattle.po_core.specs.Lists.{Has, has, contains, has_from_map}
+use Rattle.po_lists.proofs.Members.{Has, has, contains, has_from_map}
 use Rattle.po_core.specs.Marks.{settled_taken, settled_untaken, same_verdict}
 use Rattle.po_core.specs.declared.event.Mark.{Mark}
 use Rattle.po_core.specs.declared.event.Mark.TheVariants.{Untaken, Taken, Settled}
 use Rattle.po_core.specs.declared.obl.Obl.{Obl}
 use Rattle.po_core.specs.declared.obl.Verdict.{Verdict}
 use Rattle.po_ledger.specs.Parts.{AddsLine, AreLines}
-use Rattle.po_ledger.proofs.Lists.{apart_push, front_cases, front_last, front_more, key_once}
+use Rattle.po_ledger.proofs.Lists.{front_cases, front_last, front_more, key_once}
+use Rattle.po_marks.proofs.Marked.{apart_push}
 
 module _ {P N : Type 0} (marks : List (Obl P × Mark P N)) where
   pub lines_none : AreLines (take 0 marks) []

@@ -1,9 +1,8 @@
 -- Marks in a list.
 use Rattle.std.proofs.Common.{◌≡◌, ◌⊎◌, ℕ, ◌+◌, ◌<◌, List, [], ◌∷◌, ◌++◌, length, map, take, get_or, refl, sym, ◌∙◌, ap, subst, inl, inr, arith, zero, suc}
 use Rattle.std.specs.List.{Contains}
-use Rattle.std.proofs.lemmas.List.{take_more}
 use Rattle.std.proofs.lemmas.List.Elements.{Contains-push_cases}
-use Rattle.po_core.specs.Lists.{Has, has, contains, contains_map, has_from_map}
+use Rattle.po_lists.proofs.Members.{Has}
 use Rattle.po_core.specs.Core.{AreApart}
 use Rattle.po_core.specs.declared.event.Mark.{Mark}
 use Rattle.po_core.specs.declared.obl.Obl.{Obl}
@@ -12,34 +11,9 @@ use Rattle.std.proofs.lemmas.Option.{slice_get_read}
 use Rattle.std.proofs.lemmas.Bool.{cases_eq}
 use Rattle.std.proofs.lemmas.List.Elements.{Contains-push, Contains-append_left}
 use Rattle.po_base.specs.declared.numbers.FileNo.{FileNo}
-use Rattle.po_core.specs.Book.{Book, file_of_obl}
 use Rattle.po_core.specs.declared.event.Hand.{Hand}
-use Rattle.po_core.specs.declared.event.Mark.TheVariants.{Untaken}
-use Rattle.po_ledger.specs.Parts.{HasKey, HandAt}
-
--- the list up to one more item
-pub take_read : {X : Type 0} (xs : List X) (i : ℕ) (x : X) → i < length xs → x ≡ get_or xs i x → take (i + 1) xs ≡ take i xs ++ x ∷ []
-take_read xs i x l q = take_more xs i x l ∙ ap (λ y. take i xs ++ y ∷ []) (sym q)
-
--- keys of a list of marks
-pub key_of_mark : {P N : Type 0} (marks : List (Obl P × Mark P N)) (o : Obl P) → Contains (map (λ e. e.0) marks) o → HasKey marks o
-key_of_mark {P} {N} marks o h =
-    let x = has_from_map (λ (e : Obl P × Mark P N). e.0) marks o (has _ o h) in
-    (x.0.1, contains marks (o, x.0.1) (subst (λ (z : Obl P). Has marks (z, x.0.1)) x.2 x.1))
-
-pub mark_of_key : {P N : Type 0} (marks : List (Obl P × Mark P N)) (o : Obl P) → HasKey marks o → Contains (map (λ e. e.0) marks) o
-mark_of_key {P} {N} marks o h = contains_map (λ (e : Obl P × Mark P N). e.0) marks (o, h.0) h.1
-
--- items that stand apart, and one more
-pub apart_push : {X : Type 0} (xs : List X) (x : X) → AreApart xs → ¬ Contains xs x → AreApart (xs ++ x ∷ [])
-apart_push [] x a other = (λ h. has [] x h, tt)
-apart_push {X = X} (y ∷ ys) x a other = (
-  λ h. elim (Contains-push_cases ys x y h) [
-    | inl k ↦ a.0 k
-    | inr q ↦ other (contains (y ∷ ys) x (inl (sym q)))
-  ],
-  apart_push ys x a.1 (λ h. other (contains (y ∷ ys) x (inr (has ys x h)))),
-)
+use Rattle.po_ledger.specs.Parts.{HandAt}
+use Rattle.po_marks.proofs.Marked.{take_read, mark_of_key}
 
 pub both_along : {X Y : Type 0} (Q : X → Y → Type 0) {x z : X} {y w : Y} → x ≡ z → y ≡ w → Q x y → Q z w
 both_along Q {z = z} {y = y} p q h = subst (λ v. Q z v) q (subst (λ v. Q v y) p h)

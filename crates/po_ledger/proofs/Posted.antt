@@ -19,15 +19,15 @@ use Rattle.po_core.specs.declared.obl.Cause.{Cause}
 use Rattle.po_core.specs.declared.obl.Cause.TheVariants.{Support}
 use Rattle.po_core.specs.declared.obl.Obl.{Obl}
 use Rattle.po_core.specs.declared.obl.Verdict.TheVariants.{Delegated}
-use Rattle.po_core.specs.Lists.{has, contains, contains_map, has_from_map}
+use Rattle.po_lists.proofs.Members.{has, contains, contains_map, has_from_map, has_item}
 use Rattle.po_core.specs.Marks.{settled_untaken, taken_untaken}
 use Rattle.po_ledger.specs.Calls.{Does, CanPost, PostsItem, IsOpenAt, IsItemAt}
 use Rattle.po_ledger.specs.Parts.{AddsEach, AddsItem, supports_of}
 use Rattle.po_ledger.specs.View.{LedgerView, TicketView, IsKept, view_of}
 use Rattle.po_ledger.proofs.Kept.{does_seen, order_here, kept_after}
-use Rattle.po_ledger.proofs.Lists.{apart_push}
+use Rattle.po_marks.proofs.Marked.{apart_push}
 use Rattle.po_ledger.proofs.Room.{room_kept}
-use Rattle.po_ledger.proofs.Settled.{got_in, open_unsettled, same_item}
+use Rattle.po_ledger.proofs.Settled.{open_unsettled, same_item}
 
 module _ {P N T : Type 0} (b : Book P N T) (f : FunNo) (q : P) (s t : CoreState P N) (sites : List (FunNo × NodeNo)) (all : sites ≡ b.call_sites f) (adds : AddsEach (supports_of q sites) s.marks t.marks) (assumes : AddsItem s.assumed t.assumed (f, q)) (hands : t.hands ≡ s.hands) where
   support_at : (o : Obl P) → Contains (supports_of q sites) o → IsSupport b f q o
@@ -106,7 +106,7 @@ module _ {P N T : Type 0} (b of_book : Book P N T) (l : LedgerView P N T) (shelv
   open_here = subst (λ (z : Obl P). IsOpenAt t k z) (sym one) can_here.open_item
 
   legal_here : IsLegal b l.state (Post t.file p q)
-  legal_here = (open_unsettled b l.state (order_here b of_book l shelves kept law) t can_here.fits p (got_in t.hand k (p, false) open_here), subst (λ (z : Obl P). b.verdict_of z ≡ Delegated q) (sym one) can_here.verdict)
+  legal_here = (open_unsettled b l.state (order_here b of_book l shelves kept law) t can_here.fits p (has_item t.hand k (p, false) open_here), subst (λ (z : Obl P). b.verdict_of z ≡ Delegated q) (sym one) can_here.verdict)
 
   pub post_there : p.fun.0 < of_book.functions
   post_there = subst (λ (z : Book P N T). p.fun.0 < z.functions) (sym kept.same_book) ((order_here b of_book l shelves kept law).functions_there p (Taken, legal_here.0.1))

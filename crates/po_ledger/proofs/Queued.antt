@@ -1,23 +1,22 @@
 -- What waits in a ledger's queues after each call.
-use Rattle.std.proofs.Common.{◌≡◌, ◌⊎◌, ℕ, zero, suc, ◌+◌, ◌<◌, ◌≤◌, List, [], ◌∷◌, ◌++◌, length, get_or, set, replicate, refl, sym, ◌∙◌, ap, subst, inl, inr, arith}
-use Rattle.std.specs.Prelude.{Bool, true, false, Option, Some, None, slice_get, ◌↔◌}
+use Rattle.std.proofs.Common.{◌≡◌, ◌⊎◌, ℕ, zero, suc, ◌<◌, ◌≤◌, List, [], length, get_or, set, replicate, refl, sym, ◌∙◌, ap, subst, inl, inr, arith}
+use Rattle.std.specs.Prelude.{Bool, true, false, Option, Some, None, slice_get}
 use Rattle.std.specs.List.{Contains}
 use Rattle.std.proofs.lemmas.Bool.{false≢true}
 use Rattle.std.proofs.lemmas.Option.{slice_get-get_or}
 use Rattle.po_base.specs.declared.numbers.FileNo.{FileNo}
 use Rattle.po_core.specs.Book.{Book, IsBook, file_of_obl}
 use Rattle.po_core.specs.declared.event.Hand.{Hand}
-use Rattle.po_core.specs.declared.event.Mark.{Mark}
 use Rattle.po_core.specs.declared.event.Mark.TheVariants.{Untaken}
 use Rattle.po_core.specs.declared.obl.Obl.{Obl}
 use Rattle.po_ledger.specs.Calls.{Counts}
 use Rattle.po_ledger.specs.Parts.{HandAt, HasKey}
 use Rattle.po_ledger.specs.Queued.{IsQueued}
-use Rattle.po_ledger.specs.View.{LedgerView}
-use Rattle.po_marks.specs.Waiting.{AreWaiting, KeepsHolds, Marking, NoneIsHeld, SetsHold, all_of, queue_len, waiting_count}
+use Rattle.po_marks.specs.Waiting.{AreWaiting, KeepsHolds, Marking, NoneIsHeld, SetsHold, queue_len, waiting_count}
 use Rattle.po_marks.specs.declared.queue.Queue.{Queue}
-use Rattle.po_marks.proofs.Places.{get_set_other, get_set_same, set_cases}
-use Rattle.po_marks.proofs.Waits.{all_apart, all_count, all_there, all_untaken, all_waiting, waiting_still}
+use Rattle.po_marks.proofs.Places.{set_cases}
+use Rattle.po_marks.proofs.Waits.{all_apart, all_count, all_there, all_untaken, all_waiting}
+use Rattle.po_lists.proofs.Places.{get_set_other, get_set_same}
 
 pub no_hand : {P : Type 0} (n k : ℕ) (hand : Hand P) → slice_get (replicate n None) k ≡ Some (Some hand) → ⊥
 no_hand zero k hand q = cc

@@ -8,7 +8,7 @@ use Rattle.po_base.specs.declared.numbers.FunNo.{FunNo}
 use Rattle.po_core.specs.Book.{Book}
 use Rattle.po_core.specs.Core.{CoreState, IsQuiet, IsSettled, Replays}
 use Rattle.po_core.specs.Least.{IsLeastReport, IsReported}
-use Rattle.po_core.specs.Lists.{contains}
+use Rattle.po_lists.proofs.Members.{contains}
 use Rattle.po_core.specs.Marks.{same_verdict}
 use Rattle.po_core.specs.Order.{assumption_cmp, obl_cmp}
 use Rattle.po_core.specs.Theorem.{IsLeast, IsOrderly}

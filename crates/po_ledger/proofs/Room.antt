@@ -6,9 +6,10 @@ use Rattle.po_core.specs.Book.{Book}
 use Rattle.po_core.specs.Core.{AreApart, CoreState, HasMark, IsHeld, Takes}
 use Rattle.po_core.specs.declared.event.Mark.TheVariants.{Taken}
 use Rattle.po_core.specs.declared.obl.Obl.{Obl}
-use Rattle.po_core.specs.Lists.{has, contains, apart_within}
+use Rattle.po_core.specs.Lists.{apart_within}
 use Rattle.po_core.specs.Decided.{files_decided}
 use Rattle.po_ledger.specs.View.{IsRoomFor}
+use Rattle.po_lists.proofs.Members.{has, contains}
 
 -- a list whose items are each of one kind or the other, in two parts
 record Parted {X : Type 0} (A B : X → Type 0) (xs : List X) : Type 0 where

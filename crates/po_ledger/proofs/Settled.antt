@@ -16,18 +16,12 @@ use Rattle.po_core.specs.declared.event.Mark.{Mark}
 use Rattle.po_core.specs.declared.event.Mark.TheVariants.{Untaken, Taken, Settled}
 use Rattle.po_core.specs.declared.obl.Obl.{Obl}
 use Rattle.po_core.specs.declared.obl.Verdict.{Verdict}
-use Rattle.po_core.specs.Lists.{Has, has, contains, contains_map, has_from_map}
+use Rattle.po_lists.proofs.Members.{Has, has, contains, contains_map, has_from_map, has_item}
 use Rattle.po_core.specs.Marks.{same_hand}
 use Rattle.po_ledger.specs.Calls.{Does, CanSettle, SettlesItem, CanGive, IsOpenAt, IsItemAt}
 use Rattle.po_ledger.specs.Parts.{AreRemarked}
 use Rattle.po_ledger.specs.View.{LedgerView, TicketView, IsKept, AreTables, Fits, items_of}
 use Rattle.po_ledger.proofs.Kept.{does_seen, order_here, room_one, held_place, settle_does, settle_kept, give_does, give_kept, frees}
-
--- what is read at a place is in the list
-pub got_in : {X : Type 0} (xs : List X) (k : ℕ) (x : X) → slice_get xs k ≡ Some x → Has xs x
-got_in [] k x q = absurd (cc)
-got_in (y ∷ ys) zero x q = inl (cc)
-got_in (y ∷ ys) (suc k) x q = inr (got_in ys k x q)
 
 -- a write to one place of a hand keeps its obligations
 items_kept : {P : Type 0} (hand : List (Obl P × Bool)) (k : ℕ) (o : Obl P) (old new : Bool) → slice_get hand k ≡ Some (o, old) → items_of (set hand k (o, new)) ≡ items_of hand
@@ -43,7 +37,7 @@ written_or_there {P} (e ∷ es) zero o old new q a p x (inr h) =
     let is : e ≡ (o, old) = cc in
     inr (inr h, λ same. a.0 (subst (λ (z : Obl P). Contains (items_of es) z) (same ∙ ap (λ (z : Obl P × Bool). z.0) (sym is)) (contains_map (λ (z : Obl P × Bool). z.0) es (p, x) (contains es (p, x) h))))
 written_or_there {P} (e ∷ es) (suc k) o old new q a p x (inl h) =
-    inr (inl h, λ same. a.0 (subst (λ (z : Obl P). Contains (items_of es) z) (sym same ∙ ap (λ (z : Obl P × Bool). z.0) (sym h)) (contains_map (λ (z : Obl P × Bool). z.0) es (o, old) (contains es (o, old) (got_in es k (o, old) q)))))
+    inr (inl h, λ same. a.0 (subst (λ (z : Obl P). Contains (items_of es) z) (sym same ∙ ap (λ (z : Obl P × Bool). z.0) (sym h)) (contains_map (λ (z : Obl P × Bool). z.0) es (o, old) (contains es (o, old) (has_item es k (o, old) q)))))
 written_or_there (e ∷ es) (suc k) o old new q a p x (inr h) = elim (written_or_there es k o old new q a.1 p x h) [ inl c ↦ inl c | inr c ↦ inr (inr c.0, c.1) ]
 
 module _ {P N T : Type 0} (b : Book P N T) (s : CoreState P N) (order : IsOrderly b s) (t : TicketView P T) where
@@ -74,7 +68,7 @@ module _ {P N T : Type 0} (b : Book P N T) (s : CoreState P N) (order : IsOrderl
   same_item k o p q i = let both : ◌≡◌ {A = Option (Obl P × Bool)} (Some (p, i.0)) (Some (o, false)) = sym i.1 ∙ q in ap (λ (z : Obl P × Bool). z.0) (same_Some (p, i.0) (o, false) both)
 
   pub settle_legal : (k : ℕ) (v : Verdict P N) (p : Obl P) → CanSettle b s t k v → IsItemAt t k p → IsLegal b s (Settle t.file p v)
-  settle_legal k v p c i = subst (λ (z : Obl P). IsLegal b s (Settle t.file z v)) (sym (same_item k c.item p c.open_item i)) (open_unsettled c.fits c.item (got_in t.hand k (c.item, false) c.open_item), c.verdict, c.assumed)
+  settle_legal k v p c i = subst (λ (z : Obl P). IsLegal b s (Settle t.file z v)) (sym (same_item k c.item p c.open_item i)) (open_unsettled c.fits c.item (has_item t.hand k (c.item, false) c.open_item), c.verdict, c.assumed)
 
   -- after it, the ticket with that item settled fits
   pub fits_after : (n : CoreState P N) (k : ℕ) (v : Verdict P N) (p : Obl P) (u : TicketView P T) → CanSettle b s t k v → IsItemAt t k p → Settles p v s n → HasMark s p Taken → u ≡ record t { hand = set t.hand k (p, true) } → Fits n u

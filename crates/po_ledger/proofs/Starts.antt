@@ -18,7 +18,7 @@ use Rattle.po_core.specs.declared.event.Mark.TheVariants.{Untaken, Taken}
 use Rattle.po_core.specs.declared.obl.Cause.{Cause}
 use Rattle.po_core.specs.declared.obl.Cause.TheVariants.{Primary}
 use Rattle.po_core.specs.declared.obl.Obl.{Obl}
-use Rattle.po_core.specs.Lists.{Has, has, contains, contains_map, has_from_map}
+use Rattle.po_lists.proofs.Members.{Has, has, contains, contains_map, has_from_map}
 use Rattle.po_core.specs.Marks.{taken_untaken}
 use Rattle.po_ledger.specs.Answers.{TakesFirst}
 use Rattle.po_ledger.specs.Calls.{IsNew}
@@ -27,6 +27,7 @@ use Rattle.po_ledger.specs.Queued.{IsQueued}
 use Rattle.po_marks.specs.Waiting.{CanBeTaken, Marking, all_of, is_ready, is_some_item}
 use Rattle.po_marks.specs.declared.queue.Queue.{Queue}
 use Rattle.po_ledger.specs.View.{LedgerView, TicketView, IsKept}
+use Rattle.po_ledger.proofs.Queued.{no_hand}
 
 pub quiet_then : {P N T : Type 0} (b : Book P N T) (s : CoreState P N) → (((file : FileNo) × IsHeld s file) → ⊥) → ((file : FileNo) → ¬ CanTake b s file) → IsQuiet s
 quiet_then b s none idle = record { none_held = λ f h. none (f, h); none_untaken = λ o u. idle (file_of_obl b o) (λ h. none (file_of_obl b o, h), (o, u, refl)) }
@@ -36,11 +37,6 @@ quiet_not_held s q h = q.none_held h.0 h.1
 
 pub quiet_not_takeable : {P N T : Type 0} (b : Book P N T) (s : CoreState P N) (file : FileNo) → IsQuiet s → ¬ CanTake b s file
 quiet_not_takeable b s file q c = q.none_untaken c.1.0 c.1.1
-
-no_hand : {P : Type 0} (n k : ℕ) (hand : Hand P) → slice_get (replicate n None) k ≡ Some (Some hand) → ⊥
-no_hand zero k hand q = cc
-no_hand (suc n) zero hand q = cc
-no_hand (suc n) (suc k) hand q = no_hand n k hand q
 
 no_tables : {X : Type 0} (n k : ℕ) (xs : List X) → slice_get (replicate n []) k ≡ Some xs → [] ≡ xs
 no_tables zero k xs q = absurd (cc)

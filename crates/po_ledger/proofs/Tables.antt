@@ -11,10 +11,9 @@ use Rattle.indexmap.specs.IndexMap.{insert_entry}
 use Rattle.std.proofs.lemmas.Option.{same_Some}
 use Rattle.po_base.specs.declared.numbers.FunNo.{FunNo}
 use Rattle.po_core.specs.Book.{Book}
-use Rattle.po_core.specs.Lists.{Has, has, contains, contains_map, has_from_map}
+use Rattle.po_lists.proofs.Members.{Has, has, contains, contains_map, has_from_map, has_item}
 use Rattle.po_ledger.specs.Made.{HasTable}
 use Rattle.po_ledger.specs.View.{AreTables}
-use Rattle.po_ledger.proofs.Settled.{got_in}
 
 pushed_got : {X : Type 0} (xs : List X) (x : X) → slice_get (xs ++ x ∷ []) (length xs) ≡ Some x
 pushed_got [] x = refl
@@ -103,5 +102,5 @@ read_value es now at v same q f table h = value_there es at v f table q (ap (λ 
 -- a table that is read at a place where one of the function stands
 pub table_right : {P N T : Type 0} (b : Book P N T) (tables : List (FunNo × T)) (at : ℕ) (read : T) (f : FunNo) → AreTables b tables → (t : T) × (slice_get tables at ≡ Some (f, t)) → ((g : FunNo) (t : T) → slice_get tables at ≡ Some (g, t) → read ≡ t) → b.table_of f ≡ Some read
 table_right {T = T} b tables at read f right found is =
-    let there : Contains tables (f, found.0) = contains tables (f, found.0) (got_in tables at (f, found.0) found.1) in
+    let there : Contains tables (f, found.0) = contains tables (f, found.0) (has_item tables at (f, found.0) found.1) in
     right f found.0 there ∙ ap (λ (z : T). let y : Option T = Some z in y) (sym (is f found.0 found.1))

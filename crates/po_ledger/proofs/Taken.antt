@@ -13,7 +13,7 @@ use Rattle.po_core.specs.declared.event.Event.{Event}
 use Rattle.po_core.specs.declared.event.Event.TheVariants.{Take}
 use Rattle.po_core.specs.declared.event.Mark.TheVariants.{Untaken, Taken, Settled}
 use Rattle.po_core.specs.declared.obl.Obl.{Obl}
-use Rattle.po_core.specs.Lists.{Has, has, contains}
+use Rattle.po_lists.proofs.Members.{Has, has, contains}
 use Rattle.po_core.specs.Marks.{settled_taken}
 use Rattle.po_ledger.specs.Calls.{Does, HandsOut}
 use Rattle.po_ledger.specs.Parts.{AreRemarked, TakesFrom}

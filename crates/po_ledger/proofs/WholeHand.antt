@@ -12,15 +12,15 @@ use Rattle.po_core.specs.Core.{CoreState, KeepsHands, IsHeld, IsInHand, IsKnown,
 use Rattle.po_core.specs.Theorem.{IsOrderly}
 use Rattle.po_core.specs.declared.event.Event.{Event}
 use Rattle.po_core.specs.declared.event.Event.TheVariants.{Settle}
-use Rattle.po_core.specs.declared.event.Hand.{Hand}
 use Rattle.po_core.specs.declared.obl.Obl.{Obl}
 use Rattle.po_core.specs.declared.obl.Verdict.{Verdict}
 use Rattle.po_core.specs.declared.obl.Verdict.TheVariants.{Closed, Delegated, Open}
 use Rattle.po_ledger.specs.Calls.{CanPost, PostsItem, CanSettle, SettlesItem, IsOpenAt}
-use Rattle.po_ledger.specs.Hands.{IsSettledUpTo, AreVerdicts, IsDue, posting, settling, Extends, KeepsItems, SettlesHand, PostsBefore, SettlesPlace, SettlesFront}
+use Rattle.po_ledger.specs.Hands.{IsSettledUpTo, AreVerdicts, IsDue, posting, settling, Extends, SettlesHand, PostsBefore, SettlesPlace, SettlesFront}
 use Rattle.po_ledger.specs.View.{LedgerView, TicketView, Fits, IsKept, items_of}
 use Rattle.po_ledger.proofs.Kept.{order_here}
-use Rattle.po_ledger.proofs.General.{set_here, set_there, place_at, map_read, map_get, map_set, pieces_push}
+use Rattle.po_ledger.proofs.General.{map_read, map_set, pieces_push}
+use Rattle.po_lists.proofs.Places.{item_at, mapped_at, get_set_same, get_set_other}
 
 -- hands that are kept twice
 kept_twice : {P N : Type 0} (s t u : CoreState P N) → KeepsHands s t → KeepsHands t u → KeepsHands s u
@@ -28,7 +28,7 @@ kept_twice s t u first second file hand = (λ h. (first file hand).0 ((second fi
 
 -- the obligation of an item
 item_get : {P : Type 0} (hand : List (Obl P × Bool)) (k : ℕ) (o : Obl P) (x : Bool) → slice_get hand k ≡ Some (o, x) → slice_get (items_of hand) k ≡ Some o
-item_get hand k o x q = map_get (λ z. z.0) hand k (o, x) q
+item_get hand k o x q = mapped_at (λ z. z.0) hand k (o, x) q
 
 -- a place has one unsettled item
 one_open : {P T : Type 0} (t : TicketView P T) (k : ℕ) (o p : Obl P) → IsOpenAt t k o → IsOpenAt t k p → o ≡ p
@@ -107,7 +107,7 @@ module _ {P N T : Type 0} (b : Book P N T) where
   -- the verdict of the next item
   pub due_next : (t u : TicketView P T) (old new : LedgerView P N T) (vs : List (Verdict P N)) (k : ℕ) (v : Verdict P N) → AreVerdicts b t.hand vs → SettlesFront b k t u old new → k < length u.hand → v ≡ get_or vs k v → IsDue b u k v
   due_next t u old new vs k v are front l is =
-      let at = place_at u.hand k l in
+      let at = item_at u.hand k l in
       let fresh : at.0.1 ≡ false = (front.settled k at.0.0 at.0.1 at.1).1 (omega arith) in
       let item : slice_get u.hand k ≡ Some (at.0.0, false) = at.1 ∙ ap (λ (z : Bool). let y : Obl P × Bool = (at.0.0, z) in Some y) fresh in
       let all : vs ≡ map b.verdict_of (items_of u.hand) = are ∙ ap (map b.verdict_of) (sym front.ticket.items) in
@@ -121,11 +121,11 @@ module _ {P N T : Type 0} (b : Book P N T) where
   settled_upto hand new k item l before same j o x is = elim (cases_eq j k) [
     | inl q ↦ (
         let here : slice_get (set hand k (item, true)) k ≡ Some (o, x) = ap (λ (z : List (Obl P × Bool)). slice_get z k) (sym same) ∙ (ap (λ (i : ℕ). slice_get new i) (sym q) ∙ is) in
-        let both : ◌≡◌ {A = Obl P × Bool} (o, x) (item, true) = same_Some _ _ (sym here ∙ set_here hand k (item, true) l) in
+        let both : ◌≡◌ {A = Obl P × Bool} (o, x) (item, true) = same_Some _ _ (sym here ∙ get_set_same hand k (item, true) l) in
         (λ m. ap (λ (z : Obl P × Bool). z.1) both, λ m. absurd (let e : j ≡ k = q in omega arith))
         )
     | inr ne ↦ (
-        let there : slice_get hand j ≡ Some (o, x) = sym (set_there hand k j (item, true) ne) ∙ (ap (λ (z : List (Obl P × Bool)). slice_get z j) (sym same) ∙ is) in
+        let there : slice_get hand j ≡ Some (o, x) = sym (get_set_other hand k j (item, true) ne) ∙ (ap (λ (z : List (Obl P × Bool)). slice_get z j) (sym same) ∙ is) in
         let was = before j o x there in
         let other : j ≡ k → ⊥ = ne in
         (λ m. was.0 (omega arith), λ m. was.1 (omega arith))

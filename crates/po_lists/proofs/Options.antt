@@ -5,6 +5,10 @@ use Rattle.std.specs.Prelude.{Option, Some, None}
 pub one_value : {X : Type 0} (o : Option X) (x y : X) → o ≡ Some x → o ≡ Some y → x ≡ y
 one_value o x y a b = cc
 
+-- the same, where the option and the values are found from the equations
+pub one_some : {X : Type 0} {o : Option X} {x y : X} → o ≡ Some x → o ≡ Some y → x ≡ y
+one_some a b = cc
+
 pub none_or_some : {X : Type 0} (o : Option X) (x : X) → o ≡ None → o ≡ Some x → ⊥
 none_or_some o x a b = cc
 

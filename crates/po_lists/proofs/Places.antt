@@ -1,5 +1,5 @@
 -- What stands at a place of a list, and of a list made of others.
-use Rattle.std.proofs.Common.{◌≡◌, ◌≢◌, ◌⊎◌, ℕ, zero, suc, ◌+◌, ◌<◌, List, [], ◌∷◌, ◌++◌, length, map, take, drop, refl, ap, ◌∙◌, subst, inl, inr, arith}
+use Rattle.std.proofs.Common.{◌≡◌, ◌≢◌, ◌⊎◌, ℕ, zero, suc, ◌+◌, ◌<◌, List, [], ◌∷◌, ◌++◌, length, map, take, drop, set, refl, ap, ◌∙◌, subst, inl, inr, arith}
 use Rattle.std.specs.Prelude.{Some, All, slice_get, slice_set}
 use Rattle.std.specs.List.{AllZip}
 use Rattle.std.proofs.lemmas.Option.{get_or_from_slice_get, slice_get_within, same_Some}
@@ -54,6 +54,20 @@ set_elsewhere (y ∷ ys) zero zero x h = absurd (h refl)
 set_elsewhere (y ∷ ys) zero (suc j) x h = refl
 set_elsewhere (y ∷ ys) (suc i) zero x h = refl
 set_elsewhere (y ∷ ys) (suc i) (suc j) x h = set_elsewhere ys i j x (λ same. h (ap suc same))
+
+-- ---- after a write to one place of a list that std's `set` makes
+
+pub get_set_same : {X : Type 0} (xs : List X) (i : ℕ) (x : X) → i < length xs → slice_get (set xs i x) i ≡ Some x
+get_set_same [] i x h = absurd (omega arith)
+get_set_same (y ∷ ys) zero x h = refl
+get_set_same (y ∷ ys) (suc i) x h = get_set_same ys i x (omega arith)
+
+pub get_set_other : {X : Type 0} (xs : List X) (i j : ℕ) (x : X) → j ≢ i → slice_get (set xs i x) j ≡ slice_get xs j
+get_set_other [] i j x h = refl
+get_set_other (y ∷ ys) zero zero x h = absurd (h refl)
+get_set_other (y ∷ ys) zero (suc j) x h = refl
+get_set_other (y ∷ ys) (suc i) zero x h = refl
+get_set_other (y ∷ ys) (suc i) (suc j) x h = get_set_other ys i j x (λ same. h (ap suc same))
 
 -- ---- of two lists, one behind the other
 

@@ -17,6 +17,7 @@ use Rattle.po_lowering.specs.Conversions.{Change, nothing, comparison, conversio
 use Rattle.po_lowering.specs.Spelling.{Spells, no_more_texts, one_more_text}
 use Rattle.po_lowering.specs.Expressions.{Reads, by_address, loaded, Moves, at_start, moved}
 use Rattle.po_lowering.specs.Same.{Same, SameValue}
+use Rattle.po_lists.proofs.Options.{one_some}
 
 pub plus : {a b : ℕ} (n : ℕ) → a ≡ b → a + n ≡ b + n
 plus n e = ap (λ z. z + n) e
@@ -33,9 +34,6 @@ right_or d (Some z) = z.1
 abbrev pub some_or : {A : Type 0} → A → Option A → A
 some_or d None = d
 some_or d (Some z) = z
-
-pub one_some : {A : Type 0} {z : Option A} {x y : A} → z ≡ Some x → z ≡ Some y → x ≡ y
-one_some {x = x} f g = ap (some_or x) (sym f ∙ g)
 
 module _ {ns ms : List Node} where
   pub same_none : (a b : ℕ) → b ≡ a → Same ns ms a b

@@ -1,5 +1,5 @@
 -- An expression has one value and one row of nodes.
-use Rattle.std.proofs.Common.{◌≡◌, ℕ, ◌+◌, List, [], ◌∷◌, ◌++◌, Option, Some, None, Bool, true, false, refl, sym, ap, ◌∙◌, subst, arith, length}
+use Rattle.std.proofs.Common.{◌≡◌, ℕ, ◌+◌, List, [], ◌∷◌, ◌++◌, Option, Some, None, Bool, refl, sym, ap, ◌∙◌, subst, arith, length}
 use Rattle.std.specs.Prelude.{ℤ, pos}
 use Rattle.po_base.specs.declared.operand.Opnd.{Opnd}
 use Rattle.po_base.specs.declared.operand.Opnd.TheVariants as o
@@ -19,7 +19,9 @@ use Rattle.po_lowering.specs.Naming.{Scope, Named, variable, enumerator, named, 
 use Rattle.po_lowering.specs.Forms.{Layer, IsNotComparison}
 use Rattle.po_lowering.specs.Expressions.{one_or_zero, Value, number, character, size_of_expression, size_of_type, constant_name, register_name, object, paren, call, void_call, plus, minus, complement, not_value, address_of, cast, void_cast, binary, and_value, or_value, choice, void_choice, set_register, set_object, update_register, update_object, pre_increment, pre_decrement, post_increment, post_decrement, comma, Operand, operand, Both, both, Arguments, no_more, one_more, Address, slot_address, global_address, literal_address, paren_address, element_address, pointed_address, member_address, pointed_member_address, Steps, step_register, step_object, Unused, unused_increment, unused_decrement, unused_paren, unused_comma, unused_value, Condition, and_then, or_else, swapped, in_parens, comparison, test}
 use Rattle.po_lowering.specs.Same.{Same, SameRange, SameValue, SameCondition}
-use Rattle.po_lowering.proofs.Same.{plus as more, one_some, same_none, same_join, same_one, same_last, one_taken, one_spelling, one_held, one_converted, one_read, one_moved, one_saved, one_row}
+use Rattle.po_lowering.proofs.Same.{plus as more, same_none, same_join, same_one, same_last, one_taken, one_spelling, one_held, one_converted, one_read, one_moved, one_saved, one_row}
+use Rattle.po_lists.proofs.Booleans.{not_both_truths}
+use Rattle.po_lists.proofs.Options.{one_some}
 
 -- what a name names is one thing
 abbrev number_named : Named → ℤ
@@ -55,9 +57,6 @@ designates : {f : Typed} {c : Scope} {ns : List Node} {s t : State} {a b : ℕ} 
     NamesObject (named f c name p)
 designates (slot_address h x k) = subst NamesObject (sym h) tt
 designates (global_address h x k) = subst NamesObject (sym h) tt
-
-never : {z : Bool} → z ≡ true → z ≡ false → ⊥
-never f g = absurd cc
 
 nowhere : {A : Type 0} {z : Option A} {x : A} → z ≡ Some x → z ≡ None → ⊥
 nowhere f g = absurd cc
@@ -119,8 +118,8 @@ module _ {f : Typed} {c : Scope} {ns ms : List Node} where
         let en = ap called (sym q ∙ q') in
         let ev = Q.values in
         record { ends = more 1 Q.ends; value = refl; states = Q.states; nodes = same_join Q.nodes (same_one H H' Q.ends (cc)) }
-    one_value (call q A h T H) (void_call q' A' h' H') es ea = absurd (never h' h)
-    one_value (void_call q A h H) (call q' A' h' T' H') es ea = absurd (never h h')
+    one_value (call q A h T H) (void_call q' A' h' H') es ea = absurd (not_both_truths h' h)
+    one_value (void_call q A h H) (call q' A' h' T' H') es ea = absurd (not_both_truths h h')
     one_value (plus A) (plus A') es ea = one_operand A A' es ea
     one_value (minus A q T H) (minus A' q' T' H') es ea =
         let Q = one_operand A A' es ea in
@@ -150,8 +149,8 @@ module _ {f : Typed} {c : Scope} {ns ms : List Node} where
     one_value (void_cast h A) (void_cast h' A') es ea =
         let Q = one_unused A A' es ea in
         record { ends = Q.ends; value = refl; states = Q.states; nodes = Q.nodes }
-    one_value (cast h A C) (void_cast h' A') es ea = absurd (never h' h)
-    one_value (void_cast h A) (cast h' A' C') es ea = absurd (never h h')
+    one_value (cast h A C) (void_cast h' A') es ea = absurd (not_both_truths h' h)
+    one_value (void_cast h A) (cast h' A' C') es ea = absurd (not_both_truths h h')
     one_value (binary A T H) (binary A' T' H') es ea =
         let Q = one_both A A' es ea in
         let K = one_taken T T' Q.states in
@@ -196,8 +195,8 @@ module _ {f : Typed} {c : Scope} {ns ms : List Node} where
           states = S.states;
           nodes = same_join (Q.nodes Q.ends (more 1 R.ends)) (same_join R.nodes (same_join (same_one I I' R.ends (cc)) S.nodes));
         }
-    one_value (choice h A B T H I C L) (void_choice h' A' B' I' C') es ea = absurd (never h' h)
-    one_value (void_choice h A B I C) (choice h' A' B' T' H' I' C' L') es ea = absurd (never h h')
+    one_value (choice h A B T H I C L) (void_choice h' A' B' I' C') es ea = absurd (not_both_truths h' h)
+    one_value (void_choice h A B I C) (choice h' A' B' T' H' I' C' L') es ea = absurd (not_both_truths h h')
     one_value (set_register q A H) (set_register q' A' H') es ea =
         let Q = one_operand A A' es ea in
         let er = one_some q q' in

@@ -1,5 +1,5 @@
 -- A typed definition has one graph.
-use Rattle.std.proofs.Common.{◌≡◌, ℕ, suc, ◌+◌, ◌<◌, List, [], ◌∷◌, Some, Bool, true, false, refl, sym, ap, ◌∙◌, arith, length}
+use Rattle.std.proofs.Common.{◌≡◌, ℕ, suc, ◌+◌, ◌<◌, List, [], ◌∷◌, Some, refl, sym, ap, ◌∙◌, arith, length}
 use Rattle.std.specs.Prelude.{slice_get}
 use Rattle.po_ir.specs.declared.graph.Node.{Node}
 use Rattle.po_ir.specs.declared.graph.Graph.{Graph}
@@ -12,9 +12,7 @@ use Rattle.po_lowering.specs.Functions.{Params, no_more_params, in_register, in_
 use Rattle.po_lowering.specs.Same.{Same, SameRange, OneGraph}
 use Rattle.po_lowering.proofs.Same.{plus, same_none, same_join, same_one, same_last, one_row, one_taken}
 use Rattle.po_lowering.proofs.UniqueStatements.{Alike, one_items}
-
-never : {z : Bool} → z ≡ true → z ≡ false → ⊥
-never f g = absurd cc
+use Rattle.po_lists.proofs.Booleans.{not_both_truths}
 
 module _ {f : Typed} {ns ms : List Node} where
   one_params : {s s' t u : State} {a a' b d r k : ℕ} {xs : List Param} {ys : List CType} {p : Place} → Params f ns s a r k xs ys p b t → Params f ms s' a' r k xs ys p d u →
@@ -31,8 +29,8 @@ module _ {f : Typed} {ns ms : List Node} where
         nodes = same_join (same_one H H' ea refl) (same_join {b = a + 2} (same_last I I' (plus 1 ea) (cc) (omega arith))
             (same_join {b = a + 3} (same_last J J' (plus 2 ea) (cc) (omega arith)) R.nodes));
       }
-  one_params (in_register q A) (in_slot q' H' T' I' J' A') es ea = absurd (never q' q)
-  one_params (in_slot q H T I J A) (in_register q' A') es ea = absurd (never q q')
+  one_params (in_register q A) (in_slot q' H' T' I' J' A') es ea = absurd (not_both_truths q' q)
+  one_params (in_slot q H T I J A) (in_register q' A') es ea = absurd (not_both_truths q q')
 
 get_next : {X : Type 0} (x : X) (xs : List X) (i : ℕ) → slice_get (x ∷ xs) (i + 1) ≡ slice_get xs i
 get_next x xs i = let e : i + 1 ≡ suc i = omega arith in ap (slice_get (x ∷ xs)) e

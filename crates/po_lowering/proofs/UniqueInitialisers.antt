@@ -18,8 +18,9 @@ use Rattle.po_lowering.specs.Spelling.{characters_given}
 use Rattle.po_lowering.specs.Expressions.{Operand}
 use Rattle.po_lowering.specs.Initialisers.{Given, value, Step, Goes, arrived, to_element, to_member, Reaches, reached, Letters, no_more_letters, one_more_letter, Gives, one_value, a_text, all_elements, all_members, Elements, no_more_elements, one_more_element, Members, no_more_members, one_more_member, Fills, filled, not_filled, Initialises, not_initialised, static_initialised, register_initialised, slot_initialised}
 use Rattle.po_lowering.specs.Same.{SameRange, SameValue}
-use Rattle.po_lowering.proofs.Same.{plus, one_some, same_none, same_join, same_one, one_taken, one_spelling, one_converted, one_moved, SameRow}
+use Rattle.po_lowering.proofs.Same.{plus, same_none, same_join, same_one, one_taken, one_spelling, one_converted, one_moved, SameRow}
 use Rattle.po_lowering.proofs.UniqueExpressions.{one_operand}
+use Rattle.po_lists.proofs.Options.{one_some}
 
 abbrev first_or : ℤ → List ℤ → ℤ
 first_or d [] = d

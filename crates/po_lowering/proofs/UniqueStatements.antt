@@ -29,9 +29,10 @@ use Rattle.po_lowering.specs.Blocks.{decl_at, items_at, enters, slots_of, leaves
 use Rattle.po_lowering.specs.Initialisers.{Initialises}
 use Rattle.po_lowering.specs.Statements.{Around, inside, looping, switching, no_cases, cases_of, one_more_declared, with_label, with_case, with_default, Declares, no_more_parts, one_more_part, Maybe, missing, there, Test, always, tests, Begins, begins_at_once, begins_with, IsNoBlock, Runs, block, expression, empty, if_alone, if_else, while, do_while, for_plain, for_declaring, switch_block, switch_other, case, default, label, goto, break, continue, return_nothing, return_value, Items, no_more_items, statement, declaration}
 use Rattle.po_lowering.specs.Same.{Same, SameRange, SameCondition}
-use Rattle.po_lowering.proofs.Same.{plus, one_some, some_or, same_none, same_join, same_one, one_row}
+use Rattle.po_lowering.proofs.Same.{plus, some_or, same_none, same_join, same_one, one_row}
 use Rattle.po_lowering.proofs.UniqueExpressions.{one_value, one_operand, one_unused, one_condition}
 use Rattle.po_lowering.proofs.UniqueInitialisers.{one_initialised}
+use Rattle.po_lists.proofs.Options.{one_some}
 
 -- where rows end, by their lengths
 row_end : {ns : List Node} {a b : ℕ} {xs : List Node} → Row ns a xs b → b ≡ a + length xs

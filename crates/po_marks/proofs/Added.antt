@@ -1,21 +1,21 @@
 -- An obligation that is made known and put into its file's queue.
-use Rattle.std.proofs.Common.{◌≡◌, ℕ, ◌+◌, ◌<◌, ◌≤◌, List, [], ◌∷◌, ◌++◌, length, map, set, refl, sym, ◌∙◌, ap, subst, arith, length-set}
-use Rattle.std.specs.Prelude.{Bool, true, false, IsTrue, ◌↔◌, Some, slice_get}
+use Rattle.std.proofs.Common.{◌≡◌, ◌+◌, ◌<◌, ◌≤◌, List, [], ◌∷◌, ◌++◌, length, map, set, sym, ◌∙◌, ap, subst, arith, length-set}
+use Rattle.std.specs.Prelude.{Bool, false, IsTrue, ◌↔◌, Some, slice_get}
 use Rattle.std.proofs.lemmas.Bool.{both_ways}
 use Rattle.std.proofs.lemmas.List.{map-append}
 use Rattle.std.proofs.lemmas.Option.{slice_get_within}
 use Rattle.po_base.specs.declared.numbers.FileNo.{FileNo}
-use Rattle.po_core.specs.Book.{Book, file_of_obl}
+use Rattle.po_core.specs.Book.{Book}
 use Rattle.po_core.specs.Core.{AreApart}
 use Rattle.po_core.specs.declared.event.Mark.{Mark}
 use Rattle.po_core.specs.declared.event.Mark.TheVariants.{Untaken}
 use Rattle.po_core.specs.declared.obl.Obl.{Obl}
 use Rattle.po_marks.specs.Known.{HasKey}
-use Rattle.po_marks.specs.Waiting.{AddsNew, AreWaiting, Marking, is_ready, lengthened, line_up, queue_len, waiting_count}
+use Rattle.po_marks.specs.Waiting.{AddsNew, AreWaiting, Marking, is_ready, lengthened, line_up, waiting_count}
 use Rattle.po_marks.specs.declared.queue.Queue.{Queue}
-use Rattle.po_marks.proofs.InLine.{room_in_line, same_number}
+use Rattle.po_marks.proofs.InLine.{room_in_line}
 use Rattle.po_marks.proofs.Marked.{apart_push, key_of_mark}
-use Rattle.po_marks.proofs.Places.{get_set_same}
+use Rattle.po_lists.proofs.Places.{get_set_same}
 use Rattle.po_marks.proofs.Waits.{count_known, count_set, queue_len-lengthened, read_one, waiting_new}
 
 module _ {P N T : Type 0} (b : Book P N T) (o : Obl P) (m old : Marking P N) (seen : m ≡ old) (waits_old : AreWaiting b old) (file : FileNo) (of : file ≡ b.file_of o.fun) (q : Queue P) (at : slice_get m.queues file.0 ≡ Some q) where

@@ -1,5 +1,5 @@
 -- The line of the files that can be taken.
-use Rattle.std.proofs.Common.{◌≡◌, ◌≢◌, ◌⊎◌, ℕ, zero, suc, ◌+◌, ◌<◌, ◌≤◌, List, [], ◌∷◌, ◌++◌, length, get_or, set, refl, sym, ◌∙◌, ap, subst, inl, inr, arith}
+use Rattle.std.proofs.Common.{◌≡◌, ◌≢◌, ℕ, zero, suc, ◌+◌, ◌<◌, ◌≤◌, List, [], ◌∷◌, ◌++◌, length, get_or, set, refl, sym, ◌∙◌, ap, subst, inl, inr, arith}
 use Rattle.std.specs.Prelude.{◌↔◌, Bool, true, false, not, ◌&&◌, ◌==◌, IsTrue, Some, slice_get}
 use Rattle.std.specs.List.{Contains}
 use Rattle.std.proofs.lemmas.Bool.{cases_eq, false≢true}
@@ -7,12 +7,13 @@ use Rattle.std.proofs.lemmas.List.Elements.{Contains-push_cases, Contains-push, 
 use Rattle.std.proofs.lemmas.Option.{slice_get_within, same_Some}
 use Rattle.po_base.specs.declared.numbers.FileNo.{FileNo}
 use Rattle.po_core.specs.Core.{AreApart}
-use Rattle.po_core.specs.Lists.{Has, has, contains, apart_within}
+use Rattle.po_core.specs.Lists.{apart_within}
 use Rattle.po_core.specs.declared.obl.Obl.{Obl}
 use Rattle.po_marks.specs.Waiting.{CanBeTaken, free, is_ready, is_some_item, lengthened, line_up}
 use Rattle.po_marks.specs.declared.queue.Queue.{Queue}
 use Rattle.po_marks.proofs.Marked.{apart_push}
-use Rattle.po_marks.proofs.Places.{get_set_same, get_set_other}
+use Rattle.po_lists.proofs.Places.{get_set_same, get_set_other}
+use Rattle.po_lists.proofs.Members.{Has, has, contains}
 
 pub same_file : (f g : FileNo) → f.0 ≡ g.0 → f ≡ g
 same_file f g q = let to : ℕ → FileNo = λ n. record { 0 = n } in ap to q

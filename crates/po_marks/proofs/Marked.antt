@@ -1,15 +1,14 @@
 -- Marks in a list of known obligations.
 use Rattle.std.proofs.Common.{◌≡◌, ◌⊎◌, ℕ, ◌+◌, ◌<◌, List, [], ◌∷◌, ◌++◌, length, map, take, get_or, refl, sym, ◌∙◌, ap, subst, inl, inr, arith}
-use Rattle.std.specs.Prelude.{◌↔◌, Option, Some, None, Bool, true, false, IsTrue, IfSome, IfNone}
+use Rattle.std.specs.Prelude.{◌↔◌, Bool, true, false, IsTrue}
 use Rattle.std.specs.List.{Contains}
 use Rattle.std.proofs.lemmas.Bool.{false≢true}
 use Rattle.std.proofs.lemmas.List.{take_more}
 use Rattle.std.proofs.lemmas.List.Elements.{Contains-push_cases, Contains-push, Contains-append_left}
 use Rattle.po_core.specs.Core.{AreApart}
-use Rattle.po_core.specs.Lists.{Has, has, contains, contains_map, has_from_map}
-use Rattle.po_core.specs.Marks.{settled_taken, settled_untaken, taken_untaken, same_verdict}
+use Rattle.po_lists.proofs.Members.{Has, has, contains, contains_map, has_from_map}
 use Rattle.po_core.specs.declared.event.Mark.{Mark}
-use Rattle.po_core.specs.declared.event.Mark.TheVariants.{Untaken, Taken, Settled}
+use Rattle.po_core.specs.declared.event.Mark.TheVariants.{Settled}
 use Rattle.po_core.specs.declared.obl.Obl.{Obl}
 use Rattle.po_core.specs.declared.obl.Verdict.{Verdict}
 use Rattle.po_marks.specs.Known.{HasKey, HasVerdict, AreRemarked, SetsMark}

@@ -5,19 +5,7 @@ use Rattle.std.proofs.Math.Seq.{take-append_seam, get_or-append_seam}
 use Rattle.std.proofs.lemmas.Bool.{cases_eq}
 use Rattle.std.proofs.lemmas.List.{length_push}
 use Rattle.std.proofs.lemmas.Option.{slice_get_within, same_Some}
-
--- what stands at a place after a write
-pub get_set_same : {X : Type 0} (xs : List X) (k : ℕ) (x : X) → k < length xs → slice_get (set xs k x) k ≡ Some x
-get_set_same [] k x l = absurd (omega arith)
-get_set_same (y ∷ ys) zero x l = refl
-get_set_same (y ∷ ys) (suc k) x l = get_set_same ys k x (omega arith)
-
-pub get_set_other : {X : Type 0} (xs : List X) (k j : ℕ) (x : X) → j ≢ k → slice_get (set xs k x) j ≡ slice_get xs j
-get_set_other [] k j x ne = refl
-get_set_other (y ∷ ys) zero zero x ne = absurd (ne refl)
-get_set_other (y ∷ ys) zero (suc j) x ne = refl
-get_set_other (y ∷ ys) (suc k) zero x ne = refl
-get_set_other (y ∷ ys) (suc k) (suc j) x ne = get_set_other ys k j x (λ q. ne (ap suc q))
+use Rattle.po_lists.proofs.Places.{get_set_same, get_set_other}
 
 -- what stands at a place of a list with one place written
 pub set_cases : {X : Type 0} (xs : List X) (k j : ℕ) (x y : X) → slice_get (set xs k x) j ≡ Some y → ((j ≡ k) × (x ≡ y)) ⊎ ((j ≢ k) × (slice_get xs j ≡ Some y))

@@ -1,6 +1,6 @@
 -- A file that is freed, and what is taken of its hand.
-use Rattle.std.proofs.Common.{◌≡◌, ◌⊎◌, ℕ, ◌+◌, ◌<◌, ◌≤◌, List, [], ◌∷◌, ◌++◌, length, map, get_or, set, refl, sym, ◌∙◌, ap, subst, inl, inr, arith, length-set}
-use Rattle.std.specs.Prelude.{Bool, true, false, IsTrue, ◌↔◌, Some, slice_get, filter}
+use Rattle.std.proofs.Common.{◌≡◌, ◌+◌, ◌<◌, ◌≤◌, List, [], ◌++◌, length, map, get_or, set, refl, sym, ◌∙◌, ap, subst, arith, length-set}
+use Rattle.std.specs.Prelude.{Bool, true, false, ◌↔◌, Some, slice_get}
 use Rattle.std.specs.List.{Contains}
 use Rattle.std.proofs.lemmas.Option.{slice_get-get_or}
 use Rattle.po_base.specs.declared.numbers.FileNo.{FileNo}
@@ -12,9 +12,8 @@ use Rattle.po_core.specs.declared.obl.Obl.{Obl}
 use Rattle.po_marks.specs.Known.{AreRemarked, HasKey, SetsEach}
 use Rattle.po_marks.specs.Waiting.{AreWaiting, Marking, SetsHold, free, is_ready, line_up, queue_len, waiting_count}
 use Rattle.po_marks.specs.declared.queue.Queue.{Queue}
-use Rattle.po_marks.proofs.Apart.{apart_filter, contains_filter, filter_contains}
 use Rattle.po_marks.proofs.InLine.{held_not_ready, room_in_line}
-use Rattle.po_marks.proofs.Places.{get_set_same}
+use Rattle.po_lists.proofs.Places.{get_set_same}
 use Rattle.po_marks.proofs.Sets.{sets_remark}
 use Rattle.po_marks.proofs.Waits.{count_back, count_known, count_set, read_one, sets_hold, waiting_back, waiting_freed}
 

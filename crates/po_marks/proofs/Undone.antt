@@ -1,6 +1,6 @@
 -- Obligations that are taken out again as they were added.
-use Rattle.std.proofs.Common.{◌≡◌, ◌⊎◌, ℕ, zero, suc, ◌+◌, ◌<◌, ◌≤◌, List, [], ◌∷◌, ◌++◌, length, set, refl, sym, ◌∙◌, ap, subst, inl, inr, arith, length-set}
-use Rattle.std.specs.Prelude.{Bool, Some, slice_get}
+use Rattle.std.proofs.Common.{◌≡◌, ℕ, zero, suc, ◌+◌, ◌<◌, List, [], ◌∷◌, ◌++◌, length, set, sym, ◌∙◌, ap, subst, inl, inr, arith, length-set}
+use Rattle.std.specs.Prelude.{Some, slice_get}
 use Rattle.std.proofs.lemmas.List.{length_push}
 use Rattle.std.proofs.lemmas.Option.{slice_get_within}
 use Rattle.po_base.specs.declared.numbers.FileNo.{FileNo}
@@ -8,11 +8,12 @@ use Rattle.po_core.specs.Book.{Book, file_of_obl}
 use Rattle.po_core.specs.declared.event.Mark.{Mark}
 use Rattle.po_core.specs.declared.event.Mark.TheVariants.{Untaken}
 use Rattle.po_core.specs.declared.obl.Obl.{Obl}
-use Rattle.po_marks.specs.Known.{AddsUntaken, HasKey}
-use Rattle.po_marks.specs.Waiting.{Adds, AddsInTurn, AddsNew, KeepsHolds, Marking, is_ready, lengthened, line_up, queue_len, waiting_count}
+use Rattle.po_marks.specs.Known.{AddsUntaken}
+use Rattle.po_marks.specs.Waiting.{Adds, AddsInTurn, AddsNew, KeepsHolds, Marking, is_ready, lengthened, line_up, waiting_count}
 use Rattle.po_marks.specs.declared.queue.Queue.{Queue}
-use Rattle.po_marks.proofs.Places.{get_set_same, same_front, same_last, set_back}
+use Rattle.po_marks.proofs.Places.{same_front, same_last, set_back}
 use Rattle.po_marks.proofs.Waits.{count_set, holds_both, holds_more, holds_same, queue_len-lengthened, read_one}
+use Rattle.po_lists.proofs.Places.{get_set_same}
 
 module _ {P N T : Type 0} (b : Book P N T) where
   -- what was added is known, and all else is

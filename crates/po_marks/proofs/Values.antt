@@ -1,12 +1,12 @@
 -- Values that keys have in a list of entries.
-use Rattle.std.proofs.Common.{◌≡◌, ◌⊎◌, ℕ, List, [], ◌∷◌, ◌++◌, map, refl, sym, ◌∙◌, ap, subst, inl, inr, cond}
-use Rattle.std.specs.Prelude.{Bool, true, false, Option, Some, None, Result, Ok, Err, IsTrue, ◌↔◌, IfSome, IfNone, OnOk}
+use Rattle.std.proofs.Common.{◌≡◌, ◌⊎◌, List, [], ◌∷◌, ◌++◌, map, refl, sym, ◌∙◌, ap, subst, inl, inr, cond}
+use Rattle.std.specs.Prelude.{Bool, true, false, Option, Some, None, Result, Ok, Err, ◌↔◌, IfSome, IfNone, OnOk}
 use Rattle.std.specs.List.{Contains}
 use Rattle.std.specs.Map.{lookup}
 use Rattle.std.proofs.lemmas.Option.{same_Some}
 use Rattle.indexmap.specs.IndexMap.{insert_entry}
 use Rattle.po_core.specs.Core.{AreApart}
-use Rattle.po_core.specs.Lists.{Has, has, contains, contains_map, has_from_map}
+use Rattle.po_lists.proofs.Members.{Has, has, contains, contains_map}
 use Rattle.po_marks.specs.Known.{IsValueOf, PutsValue}
 use Rattle.po_marks.proofs.Keys.{AreOne}
 

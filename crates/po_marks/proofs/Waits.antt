@@ -1,9 +1,9 @@
 -- What waits in the files' queues, after a change.
 use Rattle.std.proofs.Common.{◌≡◌, ◌≢◌, ◌⊎◌, ℕ, zero, suc, ◌+◌, ◌*◌, ◌<◌, ◌≤◌, List, [], ◌∷◌, ◌++◌, length, map, get_or, set, replicate, refl, sym, ◌∙◌, ap, subst, inl, inr, arith, length-set, append_assoc}
-use Rattle.std.specs.Prelude.{◌↔◌, Bool, true, false, Option, Some, None, Result, Ok, Err, OnOk, OnErr, slice_get}
-use Rattle.std.specs.List.{Contains, flat_map, sum_by}
-use Rattle.std.proofs.lemmas.Bool.{cases_eq, false≢true}
-use Rattle.std.proofs.lemmas.List.{append-nil, length-append, length-map, length-replicate}
+use Rattle.std.specs.Prelude.{◌↔◌, Bool, true, false, Some, slice_get}
+use Rattle.std.specs.List.{Contains, flat_map}
+use Rattle.std.proofs.lemmas.Bool.{false≢true}
+use Rattle.std.proofs.lemmas.List.{length-append, length-map, length-replicate}
 use Rattle.std.proofs.lemmas.List.Concat.{length-flat_map}
 use Rattle.std.proofs.lemmas.List.Elements.{Contains-push_cases, Contains-push, Contains-append_left, Contains-append_right, Contains-append_cases, Contains-get_or}
 use Rattle.std.proofs.lemmas.List.Folds.{sum_by-replicate}
@@ -14,20 +14,21 @@ use Rattle.po_base.specs.declared.numbers.FunNo.{FunNo}
 use Rattle.po_base.specs.declared.numbers.NodeNo.{NodeNo}
 use Rattle.po_core.specs.Book.{Book, IsBook, file_of_obl}
 use Rattle.po_core.specs.Core.{AreApart}
-use Rattle.po_core.specs.Lists.{Has, has, contains, apart_within}
+use Rattle.po_core.specs.Lists.{apart_within}
 use Rattle.po_core.specs.Marks.{settled_untaken, taken_untaken}
 use Rattle.po_core.specs.declared.event.Mark.{Mark}
 use Rattle.po_core.specs.declared.event.Mark.TheVariants.{Untaken, Taken, Settled}
 use Rattle.po_core.specs.declared.obl.Cause.TheVariants.{Support}
 use Rattle.po_core.specs.declared.obl.Obl.{Obl}
 use Rattle.po_core.specs.declared.obl.Verdict.{Verdict}
-use Rattle.po_marks.specs.Known.{HasKey, AreRemarked}
+use Rattle.po_marks.specs.Known.{AreRemarked}
 use Rattle.po_marks.specs.Waiting.{AddsNew, AreWaiting, CanBeTaken, KeepsHolds, Marking, NoneIsHeld, SetsHold, TakesFrom, all_of, free, is_ready, lengthened, line_up, queue_len, waiting_count}
 use Rattle.po_marks.specs.declared.queue.Queue.{Queue}
 use Rattle.po_marks.proofs.Apart.{apart_append, apart_flat_map, from_flat_map, in_flat_map}
-use Rattle.po_marks.proofs.InLine.{held_not_ready, lined_by, lined_rest, once_by, once_rest, ready_longer, room_in_line, same_file, same_number}
+use Rattle.po_marks.proofs.InLine.{held_not_ready, lined_by, lined_rest, once_by, once_rest, ready_longer, same_file, same_number}
 use Rattle.po_marks.proofs.Marked.{apart_push, mark_of_key, one_mark}
-use Rattle.po_marks.proofs.Places.{get_set_same, set_cases}
+use Rattle.po_marks.proofs.Places.{set_cases}
+use Rattle.po_lists.proofs.Members.{has, contains}
 
 -- two places that are one have one number
 pub read_one : {X : Type 0} (xs : List X) (k : ℕ) (x y : X) → slice_get xs k ≡ Some x → slice_get xs k ≡ Some y → x ≡ y

@@ -4,7 +4,7 @@ use Rattle.std.specs.Prelude.{ℕ, suc, ◌+◌, ◌≡◌, ◌≢◌, ◌<◌, 
 use Rattle.std.proofs.Common.{sym, ap, ◌∙◌, subst, arith, inl, inr}
 use Rattle.std.proofs.lemmas.List.{length-set}
 use Rattle.std.proofs.lemmas.Option.{slice_get_within}
-use Rattle.po_lists.proofs.Options.{one_value}
+use Rattle.po_lists.proofs.Options.{one_value, none_or_some}
 use Rattle.po_lists.proofs.Places.{set_here, set_elsewhere}
 use Rattle.po_base.specs.declared.numbers.NodeNo.{NodeNo}
 use Rattle.po_base.specs.declared.numbers.RegNo.{RegNo}
@@ -52,9 +52,6 @@ no_value fr to within = ap held (set_here fr.regs to.0 None within)
 pub without_others : (fr : Frame) (to : RegNo) (r : ℕ) → r ≢ to.0 → register_value (without_value to fr) r ≡ register_value fr r
 without_others fr to r other = ap held (set_elsewhere fr.regs to.0 r None other)
 
-pub some_not_none : {X : Type 0} (o : Option X) (x : X) → o ≡ None → o ≡ Some x → ⊥
-some_not_none o x a b = absurd (cc)
-
 -- ---- what holds of a frame of the function f
 
 pub record Fits (f : Function) (fr : Frame) : Type 0 where
@@ -77,9 +74,9 @@ fits_at f fr i m at to none same k = record {
   types = record { registers = k.types.registers; arguments = k.types.arguments };
   values = record {
     parameters = k.values.parameters;
-    temporaries = λ r is needs. k.values.temporaries r is (register_before f.graph r fr.node.0 m.0 i at to (some_not_none (written i) r none) needs);
+    temporaries = λ r is needs. k.values.temporaries r is (register_before f.graph r fr.node.0 m.0 i at to (none_or_some (written i) r none) needs);
   };
-  slots = λ s needs. k.slots s (slot_before f.graph s fr.node.0 m.0 i at to (some_not_none (entered i) s same) needs);
+  slots = λ s needs. k.slots s (slot_before f.graph s fr.node.0 m.0 i at to (none_or_some (entered i) s same) needs);
 }
 
 module _ (f : Function) (fr : Frame) (to : RegNo) (v : Value) (register : Register) (there : slice_get f.graph.regs to.0 ≡ Some register) (k : Fits f fr) where
@@ -115,7 +112,7 @@ module _ (f : Function) (fr : Frame) (to : RegNo) (v : Value) (register : Regist
       temporaries = λ r temporary needs.
           put_some r.0 (same_or_not r.0 to.0) (λ not_same. k.values.temporaries r temporary (register_before f.graph r fr.node.0 (fr.node.0 + 1) i at next (other_written i r is not_same) needs));
     };
-    slots = λ s needs. k.slots s (slot_before f.graph s fr.node.0 (fr.node.0 + 1) i at next (some_not_none (entered i) s none) needs);
+    slots = λ s needs. k.slots s (slot_before f.graph s fr.node.0 (fr.node.0 + 1) i at next (none_or_some (entered i) s none) needs);
   }
 
 pub told_at : {X : Type 0} (o : Option X) (P : X → Type 0) (x : X) → o ≡ Some x → MatchOption o ⊥ P → P x
@@ -126,7 +123,7 @@ module _ (f : Function) (fr : Frame) (r : RegNo) (variable : IsVariable f.graph 
   within_regs = let same = k.place.registers in omega (arith, inside, same)
 
   left_type : (j : ℕ) (other : Register) (w : Value) → slice_get f.graph.regs j ≡ Some other → register_value (without_value r fr) j ≡ Some w → (j ≡ r.0) ⊎ (j ≢ r.0) → LiesIn other.ty w
-  left_type j other w here is (inl same) = absurd (some_not_none _ w (no_value fr r within_regs) (subst (λ (i : ℕ). register_value (without_value r fr) i ≡ Some w) same is))
+  left_type j other w here is (inl same) = absurd (none_or_some _ w (no_value fr r within_regs) (subst (λ (i : ℕ). register_value (without_value r fr) i ≡ Some w) same is))
   left_type j other w here is (inr not_same) = k.types.registers j other w here (sym (without_others fr r j not_same) ∙ is)
 
   left_parameter : (j : ℕ) (other : Register) → slice_get f.graph.regs j ≡ Some other → other.param ≡ true → (j ≡ r.0) ⊎ (j ≢ r.0) → HasSome (register_value (without_value r fr) j)
@@ -143,7 +140,7 @@ module _ (f : Function) (fr : Frame) (r : RegNo) (variable : IsVariable f.graph 
   left_temporary i t at next none temporary needs (inl same) =
       absurd (named (slice_get f.graph.regs r.0) variable (subst (λ (j : ℕ). MatchOption (slice_get f.graph.regs j) ⊥ (λ (x : Register). (x.param ≡ false) × (x.name ≡ None))) same temporary))
   left_temporary i t at next none temporary needs (inr not_same) =
-      let some = k.values.temporaries t temporary (register_before f.graph t fr.node.0 (fr.node.0 + 1) i at next (some_not_none (written i) t none) needs) in
+      let some = k.values.temporaries t temporary (register_before f.graph t fr.node.0 (fr.node.0 + 1) i at next (none_or_some (written i) t none) needs) in
       (some.0, without_others fr r t.0 not_same ∙ some.1)
 
   -- a step to the next node at which the register loses its value
@@ -160,5 +157,5 @@ module _ (f : Function) (fr : Frame) (r : RegNo) (variable : IsVariable f.graph 
       parameters = λ j other here param. left_parameter j other here param (same_or_not j r.0);
       temporaries = λ t temporary needs. left_temporary i t at next none temporary needs (same_or_not t.0 r.0);
     };
-    slots = λ s needs. k.slots s (slot_before f.graph s fr.node.0 (fr.node.0 + 1) i at next (some_not_none (entered i) s same) needs);
+    slots = λ s needs. k.slots s (slot_before f.graph s fr.node.0 (fr.node.0 + 1) i at next (none_or_some (entered i) s same) needs);
   }

@@ -99,7 +99,7 @@ pub on_number : (fr : Frame) (a : Opnd) (z : ℤ) (IsSo : ℤ → Type 0) → Is
 on_number fr (operand.Reg r) z IsSo is h = h.each z (z, is, omega (arith, ints), omega (arith, ints))
 on_number fr (operand.Num n) z IsSo is h = let same : n ≡ z = one_number n z is in h.each z (pos 0, refl, omega (arith, ints), omega (arith, ints))
 
-on_constant : (fr : Frame) (n : ℤ) (IsSo : ℤ → Type 0) → EachNumber fr (number n) IsSo → IsSo n
+pub on_constant : (fr : Frame) (n : ℤ) (IsSo : ℤ → Type 0) → EachNumber fr (number n) IsSo → IsSo n
 on_constant fr n IsSo h = h.each n (pos 0, refl, omega (arith, ints), omega (arith, ints))
 
 module _ (fr : Frame) (m : List Block) (a : Opnd) (v : Value) (is : pointer_value fr a ≡ Some v) where

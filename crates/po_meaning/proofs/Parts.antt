@@ -1,8 +1,7 @@
 -- The pointers whose parts stand in bytes that are stored, copied, written over others and read.
-use Rattle.std.specs.Prelude.{ℕ, suc, ◌+◌, ◌-◌, ◌≡◌, ◌≤◌, pos, ◌+ℤ◌, ◌≤ℤ◌, List, [], ◌∷◌, ◌++◌, All, length, map, take, drop, slice_get}
+use Rattle.std.specs.Prelude.{ℕ, suc, ◌+◌, ◌-◌, ◌≡◌, pos, ◌+ℤ◌, List, [], ◌∷◌, ◌++◌, All, length, map, take, drop}
 use Rattle.std.specs.List.{range_with_len}
 use Rattle.std.proofs.Common.{sym, ap, ◌∙◌, subst, arith, length-drop}
-use Rattle.std.proofs.lemmas.Int.{ints}
 use Rattle.std.proofs.lemmas.List.{length-take-le}
 use Rattle.std.proofs.lemmas.List.Elements.{All-nil, All-cons, All-append, All-map, All-take, All-drop, All-replicate}
 use Rattle.po_lists.proofs.Places.{all_at, all_tail, all_head}
@@ -14,10 +13,11 @@ use Rattle.po_memory.specs.declared.value.Byte.{Byte}
 use Rattle.po_memory.specs.declared.value.Byte.TheVariants as byte
 use Rattle.po_memory.specs.declared.value.Value.{Value}
 use Rattle.po_memory.specs.declared.value.Value.TheVariants.{Number, Null, Pointer, Wild}
-use Rattle.po_memory.specs.Accesses.{PointsInto, pasted, Reads}
-use Rattle.po_memory.specs.Blocks.{Spans, OnBlock, OnPointer}
+use Rattle.po_memory.specs.Accesses.{pasted, Reads}
+use Rattle.po_memory.specs.Blocks.{Spans, OnPointer}
 use Rattle.po_memory.specs.Bytes.{AreStored, IsCopied, AreCopied, AreRead, LiesIn, zeros}
 use Rattle.po_meaning.specs.Belongs.{PointsThere, IsPartThere}
+use Rattle.po_memory.proofs.Came.{room_of}
 
 module _ (target : Target) (m : List Block) where
   abbrev Part : Byte → Type 0
@@ -89,16 +89,9 @@ read_lies Ptr Wild bytes are = tt
 
 -- ---- as many bytes as are read
 
-room : (m : List Block) (at : Value) (block start size : ℕ) (c : Block) → PointsInto m at block start c → OnPointer (Spans (pos 0) (pos size)) m at → start + size ≤ length c.bytes
-room m at block start size c points spans =
-    let on : OnBlock (Spans (pos 0) (pos size)) (pos start) (slice_get m block) = subst (OnPointer (Spans (pos 0) (pos size)) m) points.pointer spans in
-    let so : Spans (pos 0) (pos size) (pos start) c = subst (OnBlock (Spans (pos 0) (pos size)) (pos start)) points.there on in
-    let high : (pos start +ℤ pos size) ≤ℤ pos (length c.bytes) = so.1.1 in
-    omega (arith, ints)
-
 pub read_size : (m : List Block) (at : Value) (size : ℕ) (bytes : List Byte) → Reads m at size bytes → OnPointer (Spans (pos 0) (pos size)) m at → length bytes ≡ size
 read_size m at size bytes reads spans =
-    let inside = room m at reads.block reads.start size reads.whole reads.points spans in
+    let inside = room_of m at reads.block reads.start size reads.whole reads.points spans in
     let behind = length-drop reads.start reads.whole.bytes in
     let count : reads.start + size - reads.start ≡ size = omega arith in
     ap length reads.same ∙ (ap (λ (n : ℕ). length (take n (drop reads.start reads.whole.bytes))) count ∙ length-take-le size (drop reads.start reads.whole.bytes) (omega (arith, inside, behind)))

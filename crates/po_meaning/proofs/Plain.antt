@@ -4,7 +4,7 @@ use Rattle.std.proofs.Common.{refl, sym, ◌∙◌, subst, arith, inl, inr}
 use Rattle.std.proofs.lemmas.Int.{ints}
 use Rattle.std.proofs.lemmas.Option.{slice_get_within, same_Some}
 use Rattle.po_lists.proofs.Places.{all_at, all_head, item_at}
-use Rattle.po_lists.proofs.Options.{one_value}
+use Rattle.po_lists.proofs.Options.{one_value, none_or_some}
 use Rattle.po_lists.proofs.Members.{contains_head, contains_second}
 use Rattle.po_base.specs.declared.numbers.GlobalNo.{GlobalNo}
 use Rattle.po_base.specs.declared.numbers.NodeNo.{NodeNo}
@@ -47,7 +47,7 @@ use Rattle.po_meaning.specs.Local.{IsDistance, Local}
 use Rattle.po_meaning.specs.Belongs.{FrameBelongs, PointsThere, FramePoints, Belongs}
 use Rattle.po_meaning.specs.Laws.{PlainStepsStay}
 use Rattle.po_meaning.proofs.Places.{same_or_not, held_within}
-use Rattle.po_meaning.proofs.Frames.{Fits, fits_of, belongs_of, fits_at, fits_put, within, within_regs, fits_without, put_value, put_others, no_value, without_others, some_not_none}
+use Rattle.po_meaning.proofs.Frames.{Fits, fits_of, belongs_of, fits_at, fits_put, within, within_regs, fits_without, put_value, put_others, no_value, without_others}
 use Rattle.po_meaning.proofs.States.{state, belongs_kept}
 use Rattle.po_meaning.proofs.Results.{kept_value, unary_lies, conv_lies, number_fits, comparison_fits}
 
@@ -266,7 +266,7 @@ module _ (of_type : ResultsAreOfType) (cover : (o : Op) → BinMembersCover o) (
       points_left : (j : ℕ) (w : Value) → register_value (without_value r s.top) j ≡ Some w → (j ≡ r.0) ⊎ (j ≢ r.0) → PointsThere p.target s.memory w
       points_left j w has (inl same) =
           let inside : r.0 < length s.top.regs = within_regs f s.top r ((instr_fits (Enter (variable.Reg r)) stands).opens_variables) (variable_within (slice_get f.graph.regs r.0) f.graph.regs r.0 refl ((instr_fits (Enter (variable.Reg r)) stands).opens_variables)) (fits_before p f s stands.of before) in
-          absurd (some_not_none _ w (no_value s.top r inside) (subst (λ (k : ℕ). register_value (without_value r s.top) k ≡ Some w) same has))
+          absurd (none_or_some _ w (no_value s.top r inside) (subst (λ (k : ℕ). register_value (without_value r s.top) k ≡ Some w) same has))
       points_left j w has (inr other) = (points_before p f s stands.of before).registers j w (sym (without_others s.top r j other) ∙ has)
 
 pub plain_steps_stay : ResultsAreOfType → ((o : Op) → BinMembersCover o) → PlainStepsStay

@@ -5,7 +5,7 @@ use Rattle.std.proofs.lemmas.List.{length-set, length-replicate}
 use Rattle.std.proofs.lemmas.List.Elements.{All-nil, All-cons, All-append, All-replicate}
 use Rattle.std.proofs.lemmas.Option.{slice_get_within}
 use Rattle.po_lists.proofs.Places.{all_at, set_here, set_elsewhere, all_tail, all_head, item_at, behind_at}
-use Rattle.po_lists.proofs.Options.{one_value}
+use Rattle.po_lists.proofs.Options.{one_value, none_or_some}
 use Rattle.po_lists.proofs.Members.{contains_head}
 use Rattle.po_base.specs.declared.numbers.FunNo.{FunNo}
 use Rattle.po_base.specs.declared.numbers.SlotNo.{SlotNo}
@@ -29,7 +29,7 @@ use Rattle.po_meaning.specs.Steps.{KillsAll}
 use Rattle.po_meaning.specs.Needs.{Needs, NeedsSlot}
 use Rattle.po_meaning.specs.Belongs.{HasSome, FrameBelongs, Wait, static_blocks, HasEntered, IsOfSlot, SlotsBelong, IsPartThere, FramePoints, Belongs}
 use Rattle.po_meaning.proofs.Places.{same_or_not, held_within}
-use Rattle.po_meaning.proofs.Frames.{Fits, belongs_of, reach_more, register_before, slot_before, some_not_none}
+use Rattle.po_meaning.proofs.Frames.{Fits, belongs_of, reach_more, register_before, slot_before}
 use Rattle.po_meaning.proofs.Memory.{Lives, Kept, BlockKept, longer, bytes_still, belongs_after, set_kept, set_all, new_kept, statics_below}
 use Rattle.po_meaning.proofs.Plain.{fits_before, points_before, arrives}
 use Rattle.po_meaning.proofs.States.{state, some_same}
@@ -71,7 +71,7 @@ module _ (fr : Frame) (s : SlotNo) (b : Option ℕ) where
     types = record { registers = k.types.registers; arguments = k.types.arguments };
     values = record {
       parameters = k.values.parameters;
-      temporaries = λ r is needs. k.values.temporaries r is (register_before f.graph r fr.node.0 (fr.node.0 + 1) i at next (some_not_none (written i) r none) needs);
+      temporaries = λ r is needs. k.values.temporaries r is (register_before f.graph r fr.node.0 (fr.node.0 + 1) i at next (none_or_some (written i) r none) needs);
     };
     slots = λ t needs. some_block t.0 within (same_or_not t.0 s.0) (λ same. here t same needs) (λ not_same. k.slots t (slot_before f.graph t fr.node.0 (fr.node.0 + 1) i at next (other t not_same) needs));
   }
@@ -186,7 +186,7 @@ module _ (library : List Signature) (p : Project) (f : Function) (s u : State) (
 
       -- what is entered now was entered before
       back_in : (t c : ℕ) → slot_block (with_block slot None s.top) t ≡ Some c → (t ≡ slot.0) ⊎ (t ≢ slot.0) → slot_block s.top t ≡ Some c
-      back_in t c has (inl same) = absurd (some_not_none _ c (block_here s.top slot None within) (subst (λ (j : ℕ). slot_block (with_block slot None s.top) j ≡ Some c) same has))
+      back_in t c has (inl same) = absurd (none_or_some _ c (block_here s.top slot None within) (subst (λ (j : ℕ). slot_block (with_block slot None s.top) j ≡ Some c) same has))
       back_in t c has (inr other) = sym (block_others s.top slot None t other) ∙ has
 
       entered_back : (k t c : ℕ) → HasEntered (state (with_block slot None s.top) s.rest s.memory) k t c → HasEntered s k t c
@@ -215,7 +215,7 @@ module _ (library : List Signature) (p : Project) (f : Function) (s u : State) (
         where
           gone : (k t : ℕ) (frame : Frame) → slice_get ((with_block slot None s.top) ∷ s.rest) k ≡ Some frame → slot_block frame t ≡ Some b → k ≡ 0 → t ≡ slot.0 → ⊥
           gone zero t frame here has first same =
-              some_not_none _ b (block_here s.top slot None within) (subst (λ (j : ℕ). slot_block (with_block slot None s.top) j ≡ Some b) same (subst (λ (fr : Frame). slot_block fr t ≡ Some b) (some_same (with_block slot None s.top) frame here) has))
+              none_or_some _ b (block_here s.top slot None within) (subst (λ (j : ℕ). slot_block (with_block slot None s.top) j ≡ Some b) same (subst (λ (fr : Frame). slot_block fr t ≡ Some b) (some_same (with_block slot None s.top) frame here) has))
           gone (suc k) t frame here has first same = absurd (omega (arith, first))
 
   pub enter_stays : (slot : SlotNo) → StandsAt p s.top f (Enter (variable.Slot slot)) → Local p f.graph (Enter (variable.Slot slot)) s.top s.memory u.top u.memory → Belongs p u

@@ -154,7 +154,7 @@ blanks_copied (s ∷ ss) (o ∷ os) [] i h e = absurd h
 blanks_copied (s ∷ ss) (o ∷ os) (r ∷ rs) zero h e = ap Some (blank_copied s o (subst (IsCopied s o) (same_Some r byte.Blank e) h.0))
 blanks_copied (s ∷ ss) (o ∷ os) (r ∷ rs) (suc i) h e = blanks_copied ss os rs i h.1 e
 
-copied_size : (source old bytes : List Byte) → AreCopied source old bytes → length bytes ≡ length old
+pub copied_size : (source old bytes : List Byte) → AreCopied source old bytes → length bytes ≡ length old
 copied_size [] [] [] h = refl
 copied_size [] [] (r ∷ rs) h = absurd h
 copied_size [] (o ∷ os) rs h = absurd h

@@ -10,15 +10,6 @@ use Rattle.po_memory.proofs.Pasted.{range_size}
 use Rattle.po_memory.proofs.WrittenBytes.{set_next}
 use Rattle.po_operate.specs.Copying.{HasRoom, AreBytesAt}
 
--- as many bytes come of a copy as it is onto
-pub copied_size : (source old bytes : List Byte) → AreCopied source old bytes → length bytes ≡ length old
-copied_size [] [] [] are = refl
-copied_size [] [] (z ∷ bytes) are = absurd are
-copied_size [] (y ∷ old) bytes are = absurd are
-copied_size (x ∷ source) [] bytes are = absurd are
-copied_size (x ∷ source) (y ∷ old) [] are = absurd are
-copied_size (x ∷ source) (y ∷ old) (z ∷ bytes) are = ap suc (copied_size source old bytes are.1)
-
 same_block : (c d : Block) → Some c ≡ Some d → c ≡ d
 same_block c d same = cc
 

@@ -1,30 +1,15 @@
 -- Tags of enumerations among the tags of a file.
-use Rattle.std.proofs.Common.{◌≡◌, ◌↔◌, ℕ, List, [], ◌∷◌, map, Some, None, Bool, true, false, refl, sym, ◌∙◌, inl, inr}
+use Rattle.std.proofs.Common.{◌≡◌, ℕ, List, [], ◌∷◌, map, Some, None, Bool, true, false, refl, sym, ◌∙◌, inl, inr}
 use Rattle.std.specs.Prelude.{nat_eq, cond, Contains}
 use Rattle.std.specs.List.{list_any}
-use Rattle.std.specs.declared.cmp.Ordering.{Ordering}
-use Rattle.std.specs.declared.cmp.Ordering.TheVariants.{Less, Equal, Greater}
 use Rattle.std.specs.Ordering.{nat_cmp}
-use Rattle.std.specs.Cmp.{eq_by_cmp_equiv}
-use Rattle.std.specs.Cmp.Lexicographic.{pointwise, slice_cmp, nat_list_cmp_total}
+use Rattle.std.specs.Cmp.Lexicographic.{pointwise, slice_cmp}
 use Rattle.std.specs.BTreeMap.{is_at}
-use Rattle.std.proofs.lemmas.Map.Views.{Contains-from_any, list_any-from_Contains}
-use Rattle.std.proofs.lemmas.Map.Lookups.{exact_bytes}
 use Rattle.std.proofs.lemmas.Slice.Eq.{bytes_eq-Decides}
 use Rattle.po_lists.proofs.Members.{contains_none, contains_head, contains_tail, contains_cases}
 use Rattle.po_types.specs.Tables.{found}
 use Rattle.po_typed.specs.Scopes.{enum_tag}
-
-tells : (o : Ordering) → is_at {K = ℕ} (λ _. o) 0 ≡ true → o ≡ Equal
-tells Less h = cc
-tells Equal h = refl
-tells Greater h = cc
-
-has_iff : (xs : List (List ℕ)) (x : List ℕ) → (list_any (is_at (slice_cmp nat_cmp x)) xs ≡ true) ↔ Contains xs x
-has_iff xs x = (
-  Contains-from_any (λ a b h. exact_bytes a b (tells (slice_cmp nat_cmp a b) h)) x xs,
-  list_any-from_Contains (eq_by_cmp_equiv nat_list_cmp_total) x xs,
-)
+use Rattle.po_tree.proofs.Sets.{has_iff}
 
 found_among : (tags : List (List ℕ)) (name : List ℕ) → Contains tags name → found (map (λ tag. (tag, enum_tag)) tags) name ≡ Some enum_tag
 found_among [] name h = absurd (contains_none name h)

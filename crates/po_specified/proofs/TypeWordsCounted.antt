@@ -1,12 +1,11 @@
 -- Specifiers that are words: their type words, and how many there are of each.
-use Rattle.std.proofs.Common.{◌≡◌, ℕ, suc, ◌+◌, List, [], ◌∷◌, Bool, true, false, cond, map, refl, sym, ap, ◌∙◌, subst, ◌⊎◌, inl, inr, arith, All, Contains}
+use Rattle.std.proofs.Common.{◌≡◌, ℕ, suc, ◌+◌, List, [], ◌∷◌, Bool, true, false, cond, map, refl, sym, ap, ◌∙◌, subst, inl, inr, arith, All, Contains}
 use Rattle.std.specs.Prelude.{nat_eq, count_by}
 use Rattle.std.specs.List.{AllByRecursion}
 use Rattle.std.specs.Cmp.Lexicographic.{pointwise}
 use Rattle.std.proofs.lemmas.Slice.Eq.{bytes_eq-Decides}
 use Rattle.std.proofs.lemmas.List.Recursion.{is_sum_by}
 use Rattle.std.proofs.lemmas.List.Elements.{All-nil, All-cons, All-head, All-tail, All-contains_itself, recursion_from_All}
-use Rattle.po_lists.proofs.Members.{contains_none, contains_head, contains_tail, contains_cases}
 use Rattle.po_arith.specs.declared.target.Target.{Target}
 use Rattle.po_tree.specs.declared.expression.Specifier.{Specifier}
 use Rattle.po_tree.specs.declared.expression.Specifier.TheVariants as sp
@@ -19,24 +18,14 @@ use Rattle.po_specified.specs.Words.{says, says_layer, IsSomeWord}
 use Rattle.po_specified.specs.WordTypes.{row_type}
 use Rattle.po_specified.proofs.Reordered.{times, tally, One_of, one_of, of_row, reordered, tally_kept}
 use Rattle.po_specified.proofs.WordRows.{rows, listed, counted}
-
-among_or_not : (names : List (List ℕ)) (text : List ℕ) → Contains names text ⊎ (Contains names text → ⊥)
-among_or_not [] text = inr (contains_none text)
-among_or_not (name ∷ names) text =
-    elim (pointwise nat_eq name text) as (λ b. pointwise nat_eq name text ≡ b → Contains (name ∷ names) text ⊎ (Contains (name ∷ names) text → ⊥)) [
-      | true ↦ (λ q. inl (subst (Contains (name ∷ names)) ((bytes_eq-Decides name text).0 q) (contains_head name names)))
-      | false ↦ (λ q. elim (among_or_not names text) [
-        | inl h ↦ inl (contains_tail name names text h)
-        | inr n ↦ inr (λ h. elim (contains_cases name names text h) [ inl e ↦ (let t : pointwise nat_eq name text ≡ true = (bytes_eq-Decides name text).1 e in absurd cc) | inr k ↦ n k ])
-      ])
-    ] refl
+use Rattle.po_tree.proofs.Sets.{decide_in}
 
 pub worded : (specs : List Specifier) → All IsSomeWord specs → (words : List (List ℕ)) × TypeWords specs words
 worded [] all = ([], no_more_words)
 worded (s ∷ specs) all =
     let word = All-head IsSomeWord s specs all in
     let rest = worded specs (All-tail IsSomeWord s specs all) in
-    elim (among_or_not type_words word.0) [
+    elim (decide_in type_words word.0) [
       | inl h ↦ (word.0 ∷ rest.0, subst (λ z. TypeWords (z ∷ specs) (word.0 ∷ rest.0)) (sym word.1) (word_of_type word.0 specs rest.0 h rest.1))
       | inr n ↦ (rest.0, subst (λ z. TypeWords (z ∷ specs) rest.0) (sym word.1) (other_word word.0 specs rest.0 n rest.1))
     ]

@@ -2,7 +2,6 @@
 use Rattle.std.specs.Prelude.{ℕ, ◌≡◌, ◌≤◌, ltb, false, true, cond, Bool, ℤ, pos, ◌*ℤ◌, List, [], ◌∷◌, All, Option, Some, None, MatchOption, length, slice_get}
 use Rattle.std.proofs.Common.{refl, subst, arith}
 use Rattle.std.proofs.lemmas.Bool.{lt-ltb}
-use Rattle.std.proofs.lemmas.Int.{ints}
 use Rattle.po_base.specs.declared.numbers.SlotNo.{SlotNo}
 use Rattle.po_base.specs.declared.operators.Op.{Op}
 use Rattle.po_base.specs.declared.operators.Op.TheVariants as op
@@ -39,7 +38,7 @@ use Rattle.po_meaning.specs.Operands.{pointer_value, slot_block}
 use Rattle.po_meaning.specs.States.{State}
 use Rattle.po_meaning.specs.Belongs.{IsOfSlot}
 use Rattle.po_meaning.proofs.Calls.{value_lies}
-use Rattle.po_meaning.proofs.Held.{Each, asks_hold, each_first, each_last, on_pointer, spanned, store_allowed}
+use Rattle.po_meaning.proofs.Held.{Each, asks_hold, each_first, each_last, on_pointer, spanned, store_allowed, on_constant}
 use Rattle.po_lists.proofs.Integers.{once}
 use Rattle.po_lists.proofs.Places.{all_at, all_head}
 use Rattle.po_meaning.proofs.Slots.{entered_block}
@@ -69,9 +68,6 @@ same_words (Int t) is = is
 same_words Ptr is = tt
 
 -- ---- what a load asks
-
-on_constant : (fr : Frame) (n : ℤ) (IsSo : ℤ → Type 0) → EachNumber fr (number n) IsSo → IsSo n
-on_constant fr n IsSo h = h.each n (pos 0, refl, omega (arith, ints), omega (arith, ints))
 
 module _ (fr : Frame) (m : List Block) (a : Opnd) (v : Value) (is : pointer_value fr a ≡ Some v) where
   aligned_in : (align : ℕ) (b : Bool) → b ≡ true → Each (Holds fr m) (cond b (Aligned (place a) align ∷ []) []) → OnPointer (IsAligned align) m v

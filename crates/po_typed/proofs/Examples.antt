@@ -1,15 +1,13 @@
 -- The rules can be met: `sizeof(int[3])` is a constant of the value 12, and has the type of size_t.
-use Rattle.std.proofs.Common.{◌≡◌, ℕ, ◌≤◌, ◌*◌, List, [], ◌∷◌, ◌++◌, length, nat_eq, Option, Some, None, Bool, true, false, refl, sym, ap, ◌∙◌, subst, arith, codes, Contains, All}
+use Rattle.std.proofs.Common.{◌≡◌, ℕ, List, [], ◌∷◌, length, nat_eq, Option, Some, None, false, refl, sym, ap, ◌∙◌, arith, codes, Contains}
 use Rattle.std.specs.Prelude.{pos}
 use Rattle.std.specs.Option.{option_map_or}
 use Rattle.std.proofs.lemmas.List.Elements.{All-contains, All-from_recursion, Contains-get_or}
 use Rattle.std.proofs.lemmas.List.Sorted.{IsPermutation-refl}
-use Rattle.po_arith.specs.declared.int_type.IntType.{IntType}
 use Rattle.po_arith.specs.declared.target.Target.TheVariants as t
 use Rattle.po_tree.specs.declared.expression.Exp.{Exp, out-Exp, out-roll-Exp}
 use Rattle.po_tree.specs.declared.expression.Exp.TheVariants as e
 use Rattle.po_tree.specs.declared.expression.Exp.TheOpen.{Exp-F, Suffix-F}
-use Rattle.po_tree.specs.declared.expression.Specifier.{Specifier}
 use Rattle.po_tree.specs.declared.expression.Specifier.TheVariants as sp
 use Rattle.po_tree.specs.declared.expression.Suffix.{out-Suffix, out-roll-Suffix}
 use Rattle.po_tree.specs.declared.expression.Suffix.TheVariants as su
@@ -19,16 +17,16 @@ use Rattle.po_tree.specs.Words.{type_words, storage_classes}
 use Rattle.po_types.specs.declared.ctype.CType.{CType}
 use Rattle.po_types.specs.declared.ctype.CType.TheVariants as c
 use Rattle.po_types.specs.declared.layout.Layout.{Layout}
-use Rattle.po_types.specs.Integers.{int_type, size_type, unsigned_type}
+use Rattle.po_types.specs.Integers.{int_type, unsigned_type}
 use Rattle.po_types.specs.Types.{size_of, as_object, counts_bytes}
 use Rattle.po_types.specs.TypesLaws.{bytes_Int, bytes_Array}
 use Rattle.po_types.specs.declared.ctype.CType.TheOpen.{CType-F}
 use Rattle.po_typed.specs.Scopes.{Context, Block}
-use Rattle.po_typed.specs.Operands.{IsComplete}
 use Rattle.po_typed.specs.Constants.{IsNumber}
 use Rattle.po_typed.specs.BaseTypes.{HasWord, no_more_words, word_of_type, word_types, IsWordType}
-use Rattle.po_typed.specs.Expressions.{Pair, pair, int, Types, number, size_of_type, IsStarredBase, base_words, Named, named_array, sized_first, no_more_sizes, one_more_size, Constant, constant_number, constant_size_of_type}
+use Rattle.po_typed.specs.Expressions.{pair, int, Types, number, size_of_type, base_words, Named, named_array, sized_first, no_more_sizes, one_more_size, Constant, constant_number, constant_size_of_type}
 use Rattle.po_typed.proofs.OneWordType.{same_text}
+use Rattle.po_lists.proofs.Booleans.{never_both}
 
 pub three : Exp
 three = e.Num (codes "3")
@@ -65,9 +63,6 @@ is_no_class : (word : List ℕ) → Contains (codes "inline" ∷ storage_classes
 is_no_class word h = All-contains (λ z. nat_eq (length z) 3 ≡ false) (codes "inline" ∷ storage_classes) word
     (All-from_recursion (λ z. nat_eq (length z) 3 ≡ false) (codes "inline" ∷ storage_classes) (refl, (refl, (refl, (refl, (refl, (refl, tt))))))) h
 
-never : {A : Type 0} {z : Bool} → z ≡ true → z ≡ false → A
-never f g = absurd cc
-
 module _ (structs : List (Option Layout)) (members : List (List (List ℕ × CType))) (names : List (Option (List ℕ))) (blocks : List Block) where
   abbrev here : Context
   here = record { target = t.L64; structs = structs; members = members; names = names; blocks = blocks }
@@ -86,9 +81,9 @@ module _ (structs : List (Option Layout)) (members : List (List (List ℕ × CTy
   names_three_ints = named_array
       (record {
         base = int;
-        allowed = λ word h k. never (ap (λ z. nat_eq (length z) 3) (only_int word k)) (is_no_class word h);
+        allowed = λ word h k. never_both (ap (λ z. nat_eq (length z) 3) (only_int word k)) (is_no_class word h);
         said = base_words is_int;
-        restricted = λ k. never (sym (ap (λ z. nat_eq (length z) 8) (only_int (codes "restrict") k))) refl;
+        restricted = λ k. never_both (sym (ap (λ z. nat_eq (length z) 8) (only_int (codes "restrict") k))) refl;
         pointable = λ n. absurd (n refl);
         unnamed = refl;
         type = refl;

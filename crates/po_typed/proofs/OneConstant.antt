@@ -1,5 +1,5 @@
 -- A constant has one value at most, and an operator makes one number at most of two.
-use Rattle.std.proofs.Common.{◌≡◌, ◌^◌, ℕ, Bool, true, false, List, [], ◌∷◌, ◌++◌, Option, Some, None, refl, sym, ap, ◌∙◌, subst, arith}
+use Rattle.std.proofs.Common.{◌≡◌, ◌^◌, ℕ, false, List, [], ◌∷◌, ◌++◌, Some, None, refl, sym, ap, ◌∙◌, subst, arith}
 use Rattle.std.specs.Prelude.{ℤ, pos, ◌-◌, ◌≤ℤ◌}
 use Rattle.std.proofs.lemmas.Int.{ints}
 use Rattle.std.proofs.lemmas.Nat.{pow_pos}
@@ -14,9 +14,8 @@ use Rattle.po_base.specs.declared.operators.Op.{Op}
 use Rattle.po_tree.specs.Literals.{Characters, end_quote, next_character, first_character}
 use Rattle.po_types.specs.Integers.{constant_type, unsigned_type}
 use Rattle.po_typed.specs.Constants.{IsNumber, IsCharacterOf, AreStrings, no_more_strings, one_more_string, as_signed_char, is_decimal, has_u, count_l, Becomes, zero_bool, other_bool, wrapped, fitting, Kept, kept_unsigned, kept_signed, Computes, added, subtracted, multiplied, divided, remainder, conjoined, disjoined, differing, Shifts, to_the_left, to_the_right, Compares, it_holds, it_fails}
-
-pub one_some : {A : Type 0} {o : Option A} {x y : A} → o ≡ Some x → o ≡ Some y → x ≡ y
-one_some f g = cc
+use Rattle.po_lists.proofs.Options.{one_some}
+use Rattle.po_lists.proofs.Booleans.{never_both}
 
 no_some : {A : Type 0} {x : A} → None ≡ Some x → ⊥
 no_some e = absurd cc
@@ -80,26 +79,23 @@ wrapped_is_one t v w u s f g =
     let as_unsigned : t ≡ unsigned_type t.bits = λ i. record { bits = t.bits; signed = s i } in
     one_residue t.bits v w u (subst (λ z. IsWrapped z v w) as_unsigned f) (subst (λ z. IsWrapped z v u) as_unsigned g)
 
-two_signs : {A : Type 0} {b : Bool} → b ≡ true → b ≡ false → A
-two_signs p q = absurd cc
-
 -- conversions, and results in a type
 becomes_at : {s t : IntType} {v x w u : ℤ} → Becomes s v w → Becomes t x u → s ≡ t → v ≡ x → w ≡ u
 becomes_at zero_bool zero_bool e f = refl
 becomes_at zero_bool (other_bool v not) e f = absurd (not (sym f))
 becomes_at zero_bool (wrapped t v w not s m) e f = absurd (not (sym e))
-becomes_at zero_bool (fitting t v s m) e f = two_signs (ap (λ z. z.signed) e ∙ s) refl
+becomes_at zero_bool (fitting t v s m) e f = never_both (ap (λ z. z.signed) e ∙ s) refl
 becomes_at (other_bool v not) zero_bool e f = absurd (not f)
 becomes_at (other_bool v not) (other_bool x not') e f = refl
 becomes_at (other_bool v not) (wrapped t x w not' s m) e f = absurd (not' (sym e))
-becomes_at (other_bool v not) (fitting t x s m) e f = two_signs (ap (λ z. z.signed) e ∙ s) refl
+becomes_at (other_bool v not) (fitting t x s m) e f = never_both (ap (λ z. z.signed) e ∙ s) refl
 becomes_at (wrapped t v w not s m) zero_bool e f = absurd (not e)
 becomes_at (wrapped t v w not s m) (other_bool x not') e f = absurd (not e)
 becomes_at (wrapped t v w not s m) (wrapped t' x u not' s' n) e f = wrapped_is_one t v w u s m (subst (λ z. IsWrapped z v u) (sym e) (subst (λ z. IsWrapped t' z u) (sym f) n))
-becomes_at (wrapped t v w not s m) (fitting t' x s' n) e f = two_signs (ap (λ z. z.signed) e ∙ s') s
-becomes_at (fitting t v s m) zero_bool e f = two_signs s (ap (λ z. z.signed) e)
-becomes_at (fitting t v s m) (other_bool x not) e f = two_signs s (ap (λ z. z.signed) e)
-becomes_at (fitting t v s m) (wrapped t' x u not s' n) e f = two_signs s (ap (λ z. z.signed) e ∙ s')
+becomes_at (wrapped t v w not s m) (fitting t' x s' n) e f = never_both (ap (λ z. z.signed) e ∙ s') s
+becomes_at (fitting t v s m) zero_bool e f = never_both s (ap (λ z. z.signed) e)
+becomes_at (fitting t v s m) (other_bool x not) e f = never_both s (ap (λ z. z.signed) e)
+becomes_at (fitting t v s m) (wrapped t' x u not s' n) e f = never_both s (ap (λ z. z.signed) e ∙ s')
 becomes_at (fitting t v s m) (fitting t' x s' n) e f = f
 
 pub becomes_one : {t : IntType} {v w u : ℤ} → Becomes t v w → Becomes t v u → w ≡ u
@@ -107,8 +103,8 @@ becomes_one f g = becomes_at f g refl refl
 
 kept_at : {t : IntType} {v x w u : ℤ} → Kept t v w → Kept t x u → v ≡ x → w ≡ u
 kept_at {t = t} (kept_unsigned v w s m) (kept_unsigned x u s' n) e = wrapped_is_one t v w u s m (subst (λ z. IsWrapped t z u) (sym e) n)
-kept_at (kept_unsigned v w s m) (kept_signed x s' n) e = two_signs s' s
-kept_at (kept_signed v s m) (kept_unsigned x u s' n) e = two_signs s s'
+kept_at (kept_unsigned v w s m) (kept_signed x s' n) e = never_both s' s
+kept_at (kept_signed v s m) (kept_unsigned x u s' n) e = never_both s s'
 kept_at (kept_signed v s m) (kept_signed x s' n) e = e
 
 pub kept_one : {t : IntType} {v w u : ℤ} → Kept t v w → Kept t v u → w ≡ u

@@ -1,38 +1,36 @@
 -- A declaration leaves one file behind it.
-use Rattle.std.proofs.Common.{◌≡◌, ◌≢◌, ℕ, ◌<◌, suc, List, [], ◌∷◌, ◌++◌, length, get_or, cond, ◌==◌, Option, Some, None, IsSome, Bool, true, false, refl, sym, ap, ◌∙◌, subst, ◌⊎◌, inl, inr, arith, codes, Contains, All}
+use Rattle.std.proofs.Common.{◌≡◌, ℕ, suc, List, [], ◌∷◌, ◌++◌, ◌==◌, Option, Some, None, IsSome, Bool, false, refl, sym, ap, ◌∙◌, subst, ◌⊎◌, inl, inr, arith, codes, Contains}
 use Rattle.std.proofs.lemmas.List.Elements.{All-nil, All-head, All-contains, All-from_recursion, Contains-get_or}
 use Rattle.std.proofs.lemmas.List.Sorted.{IsPermutation-refl}
 use Rattle.po_arith.specs.declared.target.Target.{Target}
-use Rattle.po_tree.specs.declared.expression.Exp.{Exp}
 use Rattle.po_tree.specs.declared.expression.Exp.TheOpen.{Specifier-F, Suffix-F}
 use Rattle.po_tree.specs.declared.expression.Specifier.{Specifier, out-Specifier, out-roll-Specifier}
 use Rattle.po_tree.specs.declared.expression.Specifier.TheVariants as sp
 use Rattle.po_tree.specs.declared.expression.Suffix.{out-Suffix}
 use Rattle.po_tree.specs.declared.expression.Declarator.{Declarator}
-use Rattle.po_tree.specs.declared.expression.Param.{Param, out-Param}
+use Rattle.po_tree.specs.declared.expression.Param.{Param}
 use Rattle.po_tree.specs.declared.declaration.Init.{Init}
 use Rattle.po_tree.specs.declared.declaration.Init.TheOpen.{Init-F}
 use Rattle.po_tree.specs.declared.declaration.Decl.{Decl}
-use Rattle.po_tree.specs.Order.{init_expressions}
 use Rattle.po_tree.specs.Words.{type_words}
-use Rattle.po_types.specs.declared.ctype.CType.{CType, out-CType}
+use Rattle.po_types.specs.declared.ctype.CType.{CType}
 use Rattle.po_types.specs.declared.ctype.CType.TheVariants as c
 use Rattle.po_types.specs.Laws.{OneFormat, OneLayout}
-use Rattle.po_types.specs.Types.{integer, pointee, elements, decays, decayed, signature, Agree, composite}
+use Rattle.po_types.specs.Types.{integer, pointee, elements, decays, decayed, signature, composite}
 use Rattle.po_types.specs.TypesLaws.{out_Int, out_Ptr, out_Array}
-use Rattle.po_typed.specs.Forms.{SpecifierLayer}
-use Rattle.po_typed.specs.Scopes.{Context, Meaning, global, function, local, type_name, meaning, word_here, IsNew, with_word, in_new_block, back_in}
-use Rattle.po_typed.specs.BaseTypes.{TypeWords, no_more_words, word_of_type, word_types, IsWordType, starred}
+use Rattle.po_typed.specs.Scopes.{Context, Meaning, global, function, type_name, meaning, word_here, IsNew, with_word, in_new_block, back_in}
+use Rattle.po_typed.specs.BaseTypes.{no_more_words, word_of_type, word_types, IsWordType, starred}
 use Rattle.po_typed.specs.Expressions.{Pair}
 use Rattle.po_typed.specs.Initialisers.{Place, static_place, Initialises}
-use Rattle.po_typed.specs.Declarations.{Says, tags_in, Introduces, Shapes, plain_shape, array_shape, IsBare, IsVoidAlone, void_word, void_name, Adjusted, number_taken, pointer_taken, array_taken, Enters, unnamed_parameter, named_parameter, register_parameter, Specified, specified_by_words, specified_by_one, Specifies, typedef_used, Listed, no_more_params, one_more_param, Takes, takes_void, takes_params, Declares, declares_shape, declares_function, ConstOf, const_by_specifiers, const_by_star, File, with_context, retold, Names, named_first, named_again, is_static_class, Part, part_typedef, part_function, part_function_again, part_object, part_initialised, Parts, no_more_parts, one_more_part, DeclaredIn, lone_semicolon, declared_alone, declared_parts}
-use Rattle.po_typed.proofs.OneConstant.{one_some}
+use Rattle.po_typed.specs.Declarations.{Says, Introduces, Shapes, plain_shape, array_shape, IsBare, IsVoidAlone, void_word, void_name, Adjusted, number_taken, pointer_taken, array_taken, Enters, unnamed_parameter, named_parameter, register_parameter, Specified, specified_by_words, specified_by_one, Specifies, typedef_used, Listed, no_more_params, one_more_param, Takes, takes_void, takes_params, Declares, declares_shape, declares_function, ConstOf, const_by_specifiers, const_by_star, File, with_context, retold, Names, named_first, named_again, is_static_class, Part, part_typedef, part_function, part_function_again, part_object, part_initialised, Parts, no_more_parts, one_more_part, DeclaredIn, lone_semicolon, declared_alone, declared_parts}
+use Rattle.po_lists.proofs.Options.{one_some}
 use Rattle.po_typed.proofs.OneWordType.{word_type_is_one}
-use Rattle.po_typed.proofs.OneType.{found_or_not, never, integer_Int, integer_Void, pointee_Ptr, pointee_Void, elements_Array, elements_Void}
+use Rattle.po_typed.proofs.OneType.{found_or_not, integer_Int, integer_Void, pointee_Ptr, pointee_Void, elements_Array, elements_Void}
 use Rattle.po_typed.proofs.OneBase.{IsWord, IsWordSpecifier, AreWords, none_apart, words_are_words, first_or, rest_of, type_named}
-use Rattle.po_typed.proofs.OneForm.{SameNamed, SuffixLayer, joined, sizes_of}
+use Rattle.po_typed.proofs.OneForm.{SuffixLayer, joined, sizes_of}
 use Rattle.po_typed.proofs.OneInitialiser.{one_initialised}
-use Rattle.po_typed.proofs.OneSpecifier.{SameShape, one_said, storage_is_one, some_is_not_none, one_introduced, introduces_as, shapes_as, specifies_is_no_word, one_shape, one_specified}
+use Rattle.po_typed.proofs.OneSpecifier.{SameShape, one_said, storage_is_one, some_is_not_none, one_introduced, shapes_as, specifies_is_no_word, one_shape, one_specified}
+use Rattle.po_lists.proofs.Booleans.{never_both}
 
 -- the parameters of a list in a type
 pub record SameList (ts : List CType) (a : Context) (ps : List Pair) (us : List CType) (b : Context) (qs : List Pair) : Type 0 where
@@ -208,7 +206,7 @@ is_typedef_class _ = false
 -- `typedef` is no class of objects and functions
 typedef_or_other : {A : Type 0} {class : Option (List ℕ)} → class ≡ Some (codes "typedef") → Contains is_static_class class → A
 typedef_or_other {class = class} q h =
-    never (ap is_typedef_class q) (All-contains (λ z. is_typedef_class z ≡ false) is_static_class class (All-from_recursion (λ z. is_typedef_class z ≡ false) is_static_class (refl, (refl, (refl, tt)))) h)
+    never_both (ap is_typedef_class q) (All-contains (λ z. is_typedef_class z ≡ false) is_static_class class (All-from_recursion (λ z. is_typedef_class z ≡ false) is_static_class (refl, (refl, (refl, tt)))) h)
 
 pub initialises_as : {ctx ctx' : Context} {place : Place} {t t' v : CType} {x : Init-F Init} {ps : List Pair} → Initialises ctx' place t' x v ps → ctx ≡ ctx' → t ≡ t' →
     Initialises ctx place t x v ps

@@ -1,37 +1,28 @@
 -- An expression has one typing: one type whatever it is converted to, and with one conversion one list of pairs.
-use Rattle.std.proofs.Common.{◌≡◌, ◌≢◌, ℕ, ◌+◌, List, [], ◌∷◌, ◌++◌, length, Option, Some, None, Bool, true, false, refl, sym, ap, ◌∙◌, subst, codes, Contains}
+use Rattle.std.proofs.Common.{◌≡◌, ◌+◌, List, [], ◌∷◌, ◌++◌, length, Option, Some, None, true, false, refl, sym, ap, ◌∙◌}
 use Rattle.std.specs.Prelude.{ℤ, pos, nat_abs, get_or}
 use Rattle.po_arith.specs.declared.int_type.IntType.{IntType}
-use Rattle.po_arith.specs.declared.target.Target.{Target}
-use Rattle.po_base.specs.declared.operators.Op.{Op}
 use Rattle.po_base.specs.declared.operators.Op.TheVariants as op
-use Rattle.po_tree.specs.declared.expression.Exp.{Exp, out-Exp}
-use Rattle.po_tree.specs.declared.expression.Exp.TheOpen.{Exp-F, Suffix-F}
-use Rattle.po_tree.specs.declared.expression.Specifier.{Specifier}
-use Rattle.po_tree.specs.declared.expression.Suffix.{Suffix, out-Suffix}
-use Rattle.po_tree.specs.declared.expression.Declarator.{Declarator}
-use Rattle.po_tree.specs.declared.expression.Member.{Member}
-use Rattle.po_tree.specs.declared.expression.Param.{Param}
+use Rattle.po_tree.specs.declared.expression.Exp.{Exp}
 use Rattle.po_tree.specs.declared.expression.TypeName.{TypeName}
-use Rattle.po_types.specs.declared.ctype.CType.{CType, out-CType}
+use Rattle.po_types.specs.declared.ctype.CType.{CType}
 use Rattle.po_types.specs.declared.ctype.CType.TheVariants as c
-use Rattle.po_types.specs.declared.ctype.CType.TheOpen.{CType-F}
 use Rattle.po_types.specs.declared.format.Spec.{Spec}
-use Rattle.po_types.specs.Integers.{promoted, common, int_type, size_type, bool_type}
+use Rattle.po_types.specs.Integers.{promoted, common, bool_type}
 use Rattle.po_types.specs.Types.{size_of}
 use Rattle.po_types.specs.Tables.{found}
-use Rattle.po_types.specs.Formats.{IsFormat}
 use Rattle.po_types.specs.Laws.{OneFormat}
-use Rattle.po_types.specs.TypesLaws.{out_Void, out_Int, out_Ptr}
 use Rattle.po_typed.specs.Forms.{Layer}
-use Rattle.po_typed.specs.Scopes.{Context, Meaning, global, function, local, type_name, constant, meaning}
-use Rattle.po_typed.specs.Operands.{value_type, arithmetic_operators, shift_operators, comparisons}
-use Rattle.po_typed.specs.Constants.{AreStrings, Becomes, Computes, Shifts, Compares, complemented}
-use Rattle.po_typed.specs.Expressions.{Pair, pair, int, char, printf_type, IsObject, of_file, of_block, IsStarredBase, Types, object, enumerator, number, character, string, parenthesised, subscript, subscript_first, call, print, member, arrow, post_increment, post_decrement, pre_increment, pre_decrement, address, indirection, plus, minus, complement, negation, size_of_expression, size_of_type, cast_to_void, cast_number, cast_pointer, cast_null, cast_to_bool, binary, null_right, null_left, logical_and, logical_or, conditional, assignment, compound_number, compound_pointer, comma, Operand, operand, Assigned, assigned_number, assigned_struct, assigned_pointer, assigned_null, assigned_bool, Passes, no_more_arguments, argument, Prints, no_more_printed, printed_int, printed_long, printed_size, printed_text, Named, named_plain, named_array, IsArray, sized_first, unsized_first, Sized, no_more_sizes, one_more_size, Constant, constant_number, constant_character, constant_enumerator, constant_paren, constant_plus, constant_minus, constant_complement, constant_not, constant_size_of_expression, constant_size_of_type, constant_cast, constant_arithmetic, constant_shift, constant_comparison, constant_and, constant_and_zero, constant_or, constant_or_one, constant_second, constant_third}
-use Rattle.po_typed.proofs.OneConstant.{number_is_one, character_is_one, strings_are_one, becomes_one, computes_one, shifts_one, compares_one, one_some}
-use Rattle.po_typed.proofs.OneType.{found_or_not, never, one_integer, one_pointee, one_structure, one_signature, no_pointer, one_tested, one_stepped, Class, computing, shifting, comparing, class_of, is_computing, is_shifting, is_comparing, Combination, combine, combination, is_combination, right_with_null, left_with_null, one_combination, one_chosen}
+use Rattle.po_typed.specs.Scopes.{Context}
+use Rattle.po_typed.specs.Operands.{value_type}
+use Rattle.po_typed.specs.Constants.{complemented}
+use Rattle.po_typed.specs.Expressions.{Pair, int, char, Types, object, enumerator, number, character, string, parenthesised, subscript, subscript_first, call, print, member, arrow, post_increment, post_decrement, pre_increment, pre_decrement, address, indirection, plus, minus, complement, negation, size_of_expression, size_of_type, cast_to_void, cast_number, cast_pointer, cast_null, cast_to_bool, binary, null_right, null_left, logical_and, logical_or, conditional, assignment, compound_number, compound_pointer, comma, Operand, operand, Assigned, assigned_number, assigned_struct, assigned_pointer, assigned_null, assigned_bool, Passes, no_more_arguments, argument, Prints, no_more_printed, printed_int, printed_long, printed_size, printed_text, Named, named_plain, named_array, IsArray, sized_first, unsized_first, Sized, no_more_sizes, one_more_size, Constant, constant_number, constant_character, constant_enumerator, constant_paren, constant_plus, constant_minus, constant_complement, constant_not, constant_size_of_expression, constant_size_of_type, constant_cast, constant_arithmetic, constant_shift, constant_comparison, constant_and, constant_and_zero, constant_or, constant_or_one, constant_second, constant_third}
+use Rattle.po_typed.proofs.OneConstant.{number_is_one, character_is_one, strings_are_one}
+use Rattle.po_typed.proofs.OneType.{found_or_not, one_integer, one_pointee, one_structure, one_signature, no_pointer, one_tested, one_stepped, is_computing, is_shifting, is_comparing, is_combination, right_with_null, left_with_null, one_combination, one_chosen}
 use Rattle.po_typed.proofs.OneBase.{one_starred}
 use Rattle.po_typed.proofs.OneForm.{SameTyping, SameNamed, SameConstant, alone, first, joined, between, word_type, constant_in, word_of, texts_of, sizes_of, cast_as, as_void, as_number, as_pointer, object_type, one_function, word_parts, cast_parts, binary_parts, assigned_parts, assigned_as, first_is_sized, strings_as, format_as, prints_as, array_as, one_becoming, one_computed, one_shifted, one_compared, computes_or_shifts, computes_or_compares, shifts_or_compares}
+use Rattle.po_lists.proofs.Options.{one_some}
+use Rattle.po_lists.proofs.Booleans.{never_both}
 
 module _ (one_format : OneFormat) (ctx : Context) where
   mutual
@@ -66,9 +57,9 @@ module _ (one_format : OneFormat) (ctx : Context) where
         let Q = one_operand A A' in
         record { type = refl; pairs = λ e. first refl refl (first refl e (joined (Q.pairs refl) (one_printed B (prints_as ctx B' es)))) }
     one_type (call {t = t} {params = ts} n q m A) (print n' m' s' v' k' A' B') =
-        let S = one_signature t int ts (c.Ptr char ∷ []) false true (sym q ∙ one_function ctx m m' (ap word_of (sym n ∙ n'))) in never refl (sym S.2)
+        let S = one_signature t int ts (c.Ptr char ∷ []) false true (sym q ∙ one_function ctx m m' (ap word_of (sym n ∙ n'))) in never_both refl (sym S.2)
     one_type (print n m s v k A B) (call {t = t} {params = ts} n' q' m' A') =
-        let S = one_signature t int ts (c.Ptr char ∷ []) false true (sym q' ∙ one_function ctx m' m (ap word_of (sym n' ∙ n))) in never refl (sym S.2)
+        let S = one_signature t int ts (c.Ptr char ∷ []) false true (sym q' ∙ one_function ctx m' m (ap word_of (sym n' ∙ n))) in never_both refl (sym S.2)
     one_type (member {name = name} n A h) (member n' A' h') =
         let Q = one_type A A' in
         let et = one_some h (ap (λ z. found (get_or ctx.members z []) name) (one_structure n n' Q.type) ∙ h') in

@@ -1,14 +1,14 @@
 -- What two typings of one form agree in, and what a typing of a form with several rules consists of.
-use Rattle.std.proofs.Common.{◌≡◌, ◌≢◌, ℕ, ◌+◌, List, [], ◌∷◌, ◌++◌, length, Option, Some, None, Bool, true, false, refl, sym, ap, ◌∙◌, subst, codes, Contains}
-use Rattle.std.specs.Prelude.{ℤ, pos, nat_abs, get_or}
+use Rattle.std.proofs.Common.{◌≡◌, ℕ, ◌+◌, List, [], ◌∷◌, ◌++◌, Option, Some, None, refl, sym, ap, ◌∙◌, subst}
+use Rattle.std.specs.Prelude.{ℤ}
 use Rattle.po_arith.specs.declared.int_type.IntType.{IntType}
 use Rattle.po_arith.specs.declared.target.Target.{Target}
 use Rattle.po_base.specs.declared.operators.Op.{Op}
 use Rattle.po_base.specs.declared.operators.Op.TheVariants as op
-use Rattle.po_tree.specs.declared.expression.Exp.{Exp, out-Exp}
+use Rattle.po_tree.specs.declared.expression.Exp.{Exp}
 use Rattle.po_tree.specs.declared.expression.Exp.TheOpen.{Exp-F, Suffix-F}
 use Rattle.po_tree.specs.declared.expression.Specifier.{Specifier}
-use Rattle.po_tree.specs.declared.expression.Suffix.{Suffix, out-Suffix}
+use Rattle.po_tree.specs.declared.expression.Suffix.{Suffix}
 use Rattle.po_tree.specs.declared.expression.Declarator.{Declarator}
 use Rattle.po_tree.specs.declared.expression.Member.{Member}
 use Rattle.po_tree.specs.declared.expression.Param.{Param}
@@ -17,20 +17,15 @@ use Rattle.po_types.specs.declared.ctype.CType.{CType, out-CType}
 use Rattle.po_types.specs.declared.ctype.CType.TheVariants as c
 use Rattle.po_types.specs.declared.ctype.CType.TheOpen.{CType-F}
 use Rattle.po_types.specs.declared.format.Spec.{Spec}
-use Rattle.po_types.specs.Integers.{promoted, common, int_type, size_type, bool_type}
-use Rattle.po_types.specs.Types.{size_of}
-use Rattle.po_types.specs.Tables.{found}
+use Rattle.po_types.specs.Integers.{bool_type}
 use Rattle.po_types.specs.Formats.{IsFormat}
-use Rattle.po_types.specs.Laws.{OneFormat}
 use Rattle.po_types.specs.TypesLaws.{out_Void, out_Int, out_Ptr}
 use Rattle.po_typed.specs.Forms.{Layer}
-use Rattle.po_typed.specs.Scopes.{Context, Meaning, global, function, local, type_name, constant, meaning}
-use Rattle.po_typed.specs.Operands.{value_type, arithmetic_operators, shift_operators, comparisons}
-use Rattle.po_typed.specs.Constants.{AreStrings, Becomes, Computes, Shifts, Compares, complemented}
-use Rattle.po_typed.specs.Expressions.{Pair, pair, int, char, printf_type, IsObject, of_file, of_block, IsStarredBase, Types, object, enumerator, number, character, string, parenthesised, subscript, subscript_first, call, print, member, arrow, post_increment, post_decrement, pre_increment, pre_decrement, address, indirection, plus, minus, complement, negation, size_of_expression, size_of_type, cast_to_void, cast_number, cast_pointer, cast_null, cast_to_bool, binary, null_right, null_left, logical_and, logical_or, conditional, assignment, compound_number, compound_pointer, comma, Operand, operand, Assigned, assigned_number, assigned_struct, assigned_pointer, assigned_null, assigned_bool, Passes, no_more_arguments, argument, Prints, no_more_printed, printed_int, printed_long, printed_size, printed_text, Named, named_plain, named_array, IsArray, sized_first, unsized_first, Sized, no_more_sizes, one_more_size, Constant, constant_number, constant_character, constant_enumerator, constant_paren, constant_plus, constant_minus, constant_complement, constant_not, constant_size_of_expression, constant_size_of_type, constant_cast, constant_arithmetic, constant_shift, constant_comparison, constant_and, constant_and_zero, constant_or, constant_or_one, constant_second, constant_third}
-use Rattle.po_typed.proofs.OneConstant.{number_is_one, character_is_one, strings_are_one, becomes_one, computes_one, shifts_one, compares_one, one_some}
-use Rattle.po_typed.proofs.OneType.{found_or_not, never, one_integer, one_pointee, one_structure, one_signature, no_pointer, one_tested, one_stepped, Class, computing, shifting, comparing, class_of, is_computing, is_shifting, is_comparing, Combination, combine, combination, is_combination, right_with_null, left_with_null, one_combination, one_chosen}
-use Rattle.po_typed.proofs.OneBase.{one_starred}
+use Rattle.po_typed.specs.Scopes.{Context, Meaning, global, function, local, constant, meaning}
+use Rattle.po_typed.specs.Constants.{AreStrings, Becomes, Computes, Shifts, Compares}
+use Rattle.po_typed.specs.Expressions.{Pair, pair, int, IsObject, of_file, of_block, Types, object, enumerator, cast_to_void, cast_number, cast_pointer, cast_null, cast_to_bool, binary, null_right, null_left, Operand, operand, Assigned, assigned_number, assigned_struct, assigned_pointer, assigned_null, assigned_bool, Prints, Named, IsArray, Sized, no_more_sizes, one_more_size}
+use Rattle.po_typed.proofs.OneConstant.{becomes_one, computes_one, shifts_one, compares_one}
+use Rattle.po_typed.proofs.OneType.{computing, shifting, comparing, class_of, combine, combination, is_combination, right_with_null, left_with_null}
 
 -- one type, and one list of pairs where both are converted to one type
 pub record SameTyping (t to : CType) (ps : List Pair) (u to' : CType) (qs : List Pair) : Type 0 where

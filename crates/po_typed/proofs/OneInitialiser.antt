@@ -1,5 +1,5 @@
 -- An initialiser fits a type in one way.
-use Rattle.std.proofs.Common.{◌≡◌, ◌≢◌, ℕ, ◌+◌, List, [], ◌∷◌, ◌++◌, length, Option, Some, None, Bool, true, false, refl, sym, ap, ◌∙◌, subst, ◌⊎◌, inl, inr, arith}
+use Rattle.std.proofs.Common.{◌≡◌, ℕ, ◌+◌, List, [], ◌∷◌, ◌++◌, length, Option, Some, None, refl, sym, ap, ◌∙◌, subst, ◌⊎◌, inl, inr, arith}
 use Rattle.std.specs.Prelude.{get_or}
 use Rattle.po_arith.specs.declared.int_type.IntType.{IntType}
 use Rattle.po_tree.specs.declared.expression.Exp.{Exp, out-Exp}
@@ -18,10 +18,11 @@ use Rattle.po_typed.specs.Operands.{value_type, value_layer}
 use Rattle.po_typed.specs.Constants.{AreStrings}
 use Rattle.po_typed.specs.Expressions.{Pair, pair, char, Types, string, Operand, operand, Assigned, assigned_number, assigned_struct, assigned_pointer, assigned_null, assigned_bool}
 use Rattle.po_typed.specs.Initialisers.{Place, IsScalar, scalar_number, scalar_pointer, text_type, IsText, text_alone, text_in_braces, Initialises, scalar_value, scalar_in_braces, struct_value, struct_list, array_list, unsized_list, text, unsized_text, InMembers, no_more_values, member_value, InElements, no_more_elements, element_value}
-use Rattle.po_typed.proofs.OneConstant.{one_some, strings_are_one}
+use Rattle.po_typed.proofs.OneConstant.{strings_are_one}
 use Rattle.po_typed.proofs.OneType.{found_or_not, one_integer, no_pointer, integer_Int, integer_Struct}
 use Rattle.po_typed.proofs.OneForm.{SameNamed, joined, texts_of, strings_as}
 use Rattle.po_typed.proofs.OneExpression.{one_assigned}
+use Rattle.po_lists.proofs.Options.{one_some}
 
 -- the expression that stands alone, or alone in braces
 abbrev value_alone : Init-F Init → Option Exp

@@ -1,15 +1,12 @@
 -- Specifiers, members and enumerators say one type, and declare the same.
-use Rattle.std.proofs.Common.{◌≡◌, ◌≢◌, ℕ, ◌<◌, List, [], ◌∷◌, ◌++◌, map, flat_map, Option, Some, None, IsSome, Bool, true, false, ◌||◌, refl, sym, ap, ◌∙◌, subst, arith, codes, Contains, All}
+use Rattle.std.proofs.Common.{◌≡◌, ℕ, List, [], ◌∷◌, ◌++◌, map, flat_map, Option, Some, None, IsSome, Bool, ◌||◌, refl, sym, ap, ◌∙◌, subst, arith, Contains, All}
 use Rattle.std.specs.Prelude.{is_some, ℤ, pos, ◌+ℤ◌}
-use Rattle.std.proofs.lemmas.List.Elements.{All-head, All-append}
 use Rattle.po_arith.specs.declared.int_type.IntType.{IntType}
 use Rattle.po_tree.specs.declared.expression.Exp.{Exp}
-use Rattle.po_tree.specs.declared.expression.Exp.TheOpen.{Specifier-F}
 use Rattle.po_tree.specs.declared.expression.Specifier.{Specifier, out-Specifier}
 use Rattle.po_tree.specs.declared.expression.Specifier.TheVariants as sp
-use Rattle.po_tree.specs.declared.expression.Suffix.{out-Suffix}
 use Rattle.po_tree.specs.declared.expression.Declarator.{Declarator}
-use Rattle.po_tree.specs.declared.expression.Member.{Member, out-Member}
+use Rattle.po_tree.specs.declared.expression.Member.{Member}
 use Rattle.po_tree.specs.Words.{storage_classes}
 use Rattle.po_types.specs.declared.ctype.CType.{CType}
 use Rattle.po_types.specs.declared.ctype.CType.TheVariants as c
@@ -18,16 +15,16 @@ use Rattle.po_types.specs.declared.layout.Layout.{Layout}
 use Rattle.po_types.specs.Laws.{OneFormat, OneLayout}
 use Rattle.po_types.specs.Layouts.{IsLayout}
 use Rattle.po_typed.specs.Forms.{SpecifierLayer}
-use Rattle.po_typed.specs.Scopes.{Context, Meaning, Tag, type_name, constant, struct_tag, enum_tag, meaning, tag_meaning, tag_here, with_word, with_tag, with_struct, next_struct, completed}
-use Rattle.po_typed.specs.BaseTypes.{starred}
+use Rattle.po_typed.specs.Scopes.{Context, Meaning, type_name, constant, enum_tag, with_word, with_tag, with_struct, next_struct, completed}
 use Rattle.po_typed.specs.Expressions.{Pair, IsArray, IsConstant}
-use Rattle.po_typed.specs.Declarations.{Says, it_holds, it_fails, IsNoStorage, HasStorage, no_storage, one_storage, tags_in, some_of, with_new_struct, Introduces, no_more_tags, old_tag, new_tag, Shapes, plain_shape, array_shape, IsLaidOut, Specified, specified_by_words, specified_by_one, Specifies, typedef_used, struct_used, struct_declared, enum_used, struct_untagged, struct_tagged, struct_completed, enum_untagged, enum_tagged, Membered, no_more_members, members_declared, MembersOf, no_more_of_them, one_more_member, Enumerated, no_more_enumerators, counted, valued}
-use Rattle.po_typed.proofs.OneConstant.{one_some}
+use Rattle.po_typed.specs.Declarations.{Says, it_holds, it_fails, IsNoStorage, HasStorage, no_storage, one_storage, tags_in, some_of, Introduces, no_more_tags, old_tag, new_tag, Shapes, plain_shape, array_shape, IsLaidOut, Specified, specified_by_words, specified_by_one, Specifies, typedef_used, struct_used, struct_declared, enum_used, struct_untagged, struct_tagged, struct_completed, enum_untagged, enum_tagged, Membered, no_more_members, members_declared, MembersOf, no_more_of_them, one_more_member, Enumerated, no_more_enumerators, counted, valued}
+use Rattle.po_lists.proofs.Options.{one_some}
 use Rattle.po_typed.proofs.OneWordType.{same_text, word_type_is_one}
-use Rattle.po_typed.proofs.OneType.{found_or_not, never}
+use Rattle.po_typed.proofs.OneType.{found_or_not}
 use Rattle.po_typed.proofs.OneBase.{IsWord, IsWordSpecifier, AreWords, plain_are_words, one_apart, none_apart, words_are_words, type_named, struct_numbered}
-use Rattle.po_typed.proofs.OneForm.{SameNamed, joined, sizes_of}
+use Rattle.po_typed.proofs.OneForm.{joined, sizes_of}
 use Rattle.po_typed.proofs.OneExpression.{one_type, one_array, one_constant}
+use Rattle.po_lists.proofs.Booleans.{never_both}
 
 -- what two declarations of one thing agree in: what is in force behind them, and the pairs
 pub record SameBehind (a : Context) (ps : List Pair) (b : Context) (qs : List Pair) : Type 0 where
@@ -70,7 +67,7 @@ storage_is_one (one_storage specs before after word q i n m) (one_storage specs'
     ap Some (same_text (one_apart IsNoStorage (sp.Word word) (sp.Word word') after after' before before' (sym q ∙ q') n n' (is_storage word i) (is_storage word' i')))
 
 pub some_is_not_none : {A B : Type 0} {z : Option A} → IsSome z → z ≡ None → B
-some_is_not_none h q = never h (ap is_some q)
+some_is_not_none h q = never_both h (ap is_some q)
 
 pub one_introduced : {ctx a b : Context} {tags : List (List ℕ)} → Introduces ctx tags a → Introduces ctx tags b → a ≡ b
 one_introduced no_more_tags no_more_tags = refl

@@ -1,39 +1,37 @@
 -- A statement has one list of pairs, and a definition has one typing.
-use Rattle.std.proofs.Common.{◌≡◌, ◌≢◌, ℕ, List, [], ◌∷◌, ◌++◌, map, flat_map, cond, ◌==◌, Option, Some, None, IsSome, Bool, true, false, refl, sym, ap, ◌∙◌, subst, codes, Contains, All}
+use Rattle.std.proofs.Common.{◌≡◌, ℕ, List, [], ◌∷◌, ◌++◌, map, flat_map, cond, ◌==◌, Option, Some, None, IsSome, false, refl, sym, ap, ◌∙◌, subst}
 use Rattle.std.specs.Prelude.{ℤ}
 use Rattle.std.proofs.lemmas.List.Elements.{All-head}
 use Rattle.po_arith.specs.declared.int_type.IntType.{IntType}
 use Rattle.po_tree.specs.declared.expression.Exp.{Exp}
-use Rattle.po_tree.specs.declared.expression.Exp.TheOpen.{Suffix-F}
 use Rattle.po_tree.specs.declared.expression.Declarator.{Declarator}
 use Rattle.po_tree.specs.declared.expression.Param.{Param, out-Param}
 use Rattle.po_tree.specs.declared.declaration.Init.{Init, out-Init}
 use Rattle.po_tree.specs.declared.declaration.Init.TheOpen.{Init-F}
 use Rattle.po_tree.specs.declared.declaration.Decl.{Decl}
-use Rattle.po_tree.specs.declared.statement.Stmt.{Stmt, out-Stmt}
+use Rattle.po_tree.specs.declared.statement.Stmt.{Stmt}
 use Rattle.po_tree.specs.declared.statement.Stmt.TheOpen.{Stmt-F}
 use Rattle.po_tree.specs.declared.function.FunTree.{FunTree}
 use Rattle.po_types.specs.declared.ctype.CType.{CType}
 use Rattle.po_types.specs.declared.ctype.CType.TheVariants as c
 use Rattle.po_types.specs.Integers.{promoted}
 use Rattle.po_types.specs.Laws.{OneFormat, OneLayout}
-use Rattle.po_typed.specs.Scopes.{Context, Storage, automatic, in_register, in_static, local, with_word, in_new_block, back_in, word_here, function}
+use Rattle.po_typed.specs.Scopes.{Context, Storage, automatic, in_register, in_static, local, with_word, in_new_block, back_in}
 use Rattle.po_typed.specs.BaseTypes.{starred}
-use Rattle.po_typed.specs.Constants.{Becomes}
-use Rattle.po_typed.specs.Expressions.{Pair, IsArray}
+use Rattle.po_typed.specs.Expressions.{Pair}
 use Rattle.po_typed.specs.Initialisers.{Place, static_place, automatic_place, Initialises}
-use Rattle.po_typed.specs.Declarations.{IsVoidAlone, void_word, void_name, Listed, File, with_context}
+use Rattle.po_typed.specs.Declarations.{IsVoidAlone, void_word, void_name, File, with_context}
 use Rattle.po_typed.specs.Environments.{IsTyping}
 use Rattle.po_typed.specs.declared.typed.TypedFun.{TypedFun}
-use Rattle.po_typed.specs.Statements.{Around, in_loop, in_switch, aside, own_labels, apart_from, StoredAs, stored_in_block, stored_auto, stored_register, stored_static, ShapesHere, plain_here, array_here, Locals, no_more_locals, plain_local, initialised_local, DeclaredHere, declared_here, AllInitialised, IsUnused, Controls, MaybeUnused, nothing_unused, something_unused, MaybeControls, nothing_controls, something_controls, IsNoBlock, no_block_layer, Runs, block, expression, empty, if_alone, if_else, switch_block, switch_other, case, default, label, while, do_while, for_nothing, for_value, for_variables, goto, continue, break, return_nothing, return_value, Items, no_more_items, statement, declaration, declaration_without, AllNamed, Receives, receives_nothing, receives_void, receives_params, NamesFunction, function_new, function_again, atop, around_body, Defines, defines}
-use Rattle.po_typed.proofs.OneConstant.{one_some}
+use Rattle.po_typed.specs.Statements.{Around, in_switch, own_labels, StoredAs, stored_in_block, stored_auto, stored_register, stored_static, ShapesHere, plain_here, array_here, Locals, no_more_locals, plain_local, initialised_local, DeclaredHere, declared_here, AllInitialised, IsUnused, Controls, MaybeUnused, nothing_unused, something_unused, MaybeControls, nothing_controls, something_controls, no_block_layer, Runs, block, expression, empty, if_alone, if_else, switch_block, switch_other, case, default, label, while, do_while, for_nothing, for_value, for_variables, goto, continue, break, return_nothing, return_value, Items, no_more_items, statement, declaration, declaration_without, AllNamed, Receives, receives_nothing, receives_void, receives_params, NamesFunction, function_new, function_again, atop, around_body, Defines, defines}
+use Rattle.po_lists.proofs.Options.{one_some}
 use Rattle.po_typed.proofs.OneType.{found_or_not, one_integer, one_tested}
 use Rattle.po_typed.proofs.OneBase.{one_base}
 use Rattle.po_typed.proofs.OneForm.{SameNamed, joined, sizes_of, array_as, one_becoming}
 use Rattle.po_typed.proofs.OneExpression.{one_type, one_operand, one_assigned, one_array, one_constant}
 use Rattle.po_typed.proofs.OneInitialiser.{one_initialised}
 use Rattle.po_typed.proofs.OneSpecifier.{SameBehind, storage_is_one, some_is_not_none, one_specified}
-use Rattle.po_typed.proofs.OneDeclaration.{SameList, initialises_as, listed_as, one_listed, params_in}
+use Rattle.po_typed.proofs.OneDeclaration.{SameList, initialises_as, one_listed, params_in}
 
 -- the cases and defaults of a statement, and its pairs
 pub record SameRun (marks : List (Option ℤ)) (ps : List Pair) (others : List (Option ℤ)) (qs : List Pair) : Type 0 where

@@ -1,5 +1,5 @@
 -- A type is of one form, with one set of parts; and what operands are converted to follows from their types.
-use Rattle.std.proofs.Common.{◌≡◌, ◌≢◌, ℕ, List, [], ◌∷◌, ◌++◌, Option, Some, None, Bool, true, false, refl, sym, ap, ◌∙◌, subst, ◌⊎◌, inl, inr, All, Contains}
+use Rattle.std.proofs.Common.{◌≡◌, ◌≢◌, ℕ, List, ◌++◌, Option, Some, None, Bool, refl, sym, ap, ◌∙◌, subst, ◌⊎◌, inl, inr, Contains}
 use Rattle.std.proofs.lemmas.List.Elements.{All-contains, All-from_recursion}
 use Rattle.po_arith.specs.declared.int_type.IntType.{IntType}
 use Rattle.po_base.specs.declared.operators.Op.{Op}
@@ -13,14 +13,11 @@ use Rattle.po_types.specs.Types.{integer, integer_layer, pointee, pointee_layer,
 use Rattle.po_types.specs.TypesLaws.{out_Void, out_Int, out_Ptr, out_Array, out_Struct, out_Fun}
 use Rattle.po_typed.specs.Scopes.{Context}
 use Rattle.po_typed.specs.Operands.{Tested, tested_number, tested_pointer, Stepped, stepped_number, stepped_pointer, Combines, arithmetic, shift, numbers_compared, pointers_compared, pointer_plus, plus_pointer, pointer_minus, difference, compared_as, arithmetic_operators, shift_operators, equality_operators, comparisons}
-use Rattle.po_typed.proofs.OneConstant.{one_some}
+use Rattle.po_lists.proofs.Options.{one_some}
 use Rattle.po_typed.specs.Expressions.{IsNullPointer, Chooses, numbers, structs, voids, pointers, zero_right, zero_left, null_pointer_right, null_pointer_left, void_right, void_left}
 
 pub found_or_not : {A B : Type 0} {z : Option A} {x : A} → z ≡ Some x → z ≡ None → B
 found_or_not f g = absurd cc
-
-pub never : {A : Type 0} {z : Bool} → z ≡ true → z ≡ false → A
-never f g = absurd cc
 
 -- the parts of each form
 pub integer_Int : (t : IntType) → integer (c.Int t) ≡ Some t

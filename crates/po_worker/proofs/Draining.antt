@@ -1,6 +1,6 @@
 -- The steps of one worker that drains a ledger.
 use Rattle.std.proofs.Common.{◌≡◌, ℕ, ◌+◌, ◌<◌, ◌≤◌, List, [], ◌∷◌, ◌++◌, length, map, refl, sym, ◌∙◌, ap, subst, inl, inr, arith, append_assoc}
-use Rattle.std.specs.Prelude.{Bool, true, false}
+use Rattle.std.specs.Prelude.{Bool, false}
 use Rattle.std.specs.List.{Contains, flat_map}
 use Rattle.std.proofs.lemmas.Bool.{cases_eq}
 use Rattle.std.proofs.lemmas.List.{append-nil, length-map}
@@ -15,12 +15,11 @@ use Rattle.po_core.specs.declared.event.Hand.{Hand}
 use Rattle.po_core.specs.declared.obl.Obl.{Obl}
 use Rattle.po_core.specs.declared.obl.Verdict.{Verdict}
 use Rattle.po_core.specs.declared.obl.Verdict.TheVariants.{Closed, Delegated, Open}
-use Rattle.po_ledger.specs.Calls.{Does, HandsOut, CanGive, KeepsTicket}
-use Rattle.po_ledger.specs.Hands.{Extends, IsSettledUpTo, KeepsItems, SettlesHand, posting, settling}
+use Rattle.po_ledger.specs.Calls.{Does, HandsOut, KeepsTicket}
+use Rattle.po_ledger.specs.Hands.{Extends, KeepsItems, SettlesHand, posting, settling}
 use Rattle.po_ledger.specs.View.{LedgerView, TicketView, Fits, IsLedger, items_of}
 use Rattle.po_worker.specs.Alone.{NoneHeld, HoldsOnly, Advances}
-use Rattle.po_worker.proofs.Handed.{can_give}
-use Rattle.po_worker.proofs.Held.{same_file}
+use Rattle.po_marks.proofs.InLine.{same_file}
 
 -- Journals that grow.
 module _ {P N : Type 0} where

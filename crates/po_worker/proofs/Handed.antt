@@ -1,11 +1,10 @@
 -- Tickets that are handed out, judged and given back.
-use Rattle.std.proofs.Common.{◌≡◌, ℕ, ◌+◌, ◌<◌, List, [], ◌∷◌, ◌++◌, suc, length, map, take, refl, sym, ◌∙◌, ap, subst, arith}
+use Rattle.std.proofs.Common.{◌≡◌, ℕ, ◌+◌, List, [], ◌∷◌, ◌++◌, suc, length, map, take, refl, sym, ◌∙◌, ap, subst, arith}
 use Rattle.std.specs.Prelude.{Bool, true, slice_get, Some}
-use Rattle.std.proofs.lemmas.List.{length-map}
 use Rattle.std.proofs.lemmas.Option.{slice_get_read}
 use Rattle.po_core.specs.Book.{Book}
 use Rattle.po_core.specs.Core.{CoreState, IsQuiet, Keeps, Replays}
-use Rattle.po_core.specs.Lists.{contains}
+use Rattle.po_lists.proofs.Members.{contains, has_item}
 use Rattle.po_core.specs.declared.event.Event.{Event}
 use Rattle.po_core.specs.declared.event.Event.TheVariants.{Ask}
 use Rattle.po_core.specs.declared.event.Mark.TheVariants.{Untaken}
@@ -19,18 +18,19 @@ use Rattle.po_ledger.specs.declared.next.Next.{Next}
 use Rattle.po_ledger.specs.declared.next.Next.TheVariants.{Ticket, Wait, Done}
 use Rattle.po_worker.specs.Asked.{Tells}
 use Rattle.po_worker.specs.Work.{IsToldDone}
-use Rattle.po_worker.proofs.General.{got_in, map_get, map_push}
+use Rattle.po_worker.proofs.General.{map_push}
+use Rattle.po_lists.proofs.Places.{mapped_at}
 
 module _ {P N T : Type 0} (b : Book P N T) where
   -- nothing is settled of a ticket that is handed out
   pub handed_open : (w : ℕ) (old new : LedgerView P N T) (t : TicketView P T) → HandsOut b w old new t → IsSettledUpTo t.hand 0
-  handed_open w old new t h k o settled at = (λ l. absurd (omega (arith, l)), λ l. h.all_open o settled (contains t.hand (o, settled) (got_in t.hand k (o, settled) at)))
+  handed_open w old new t h k o settled at = (λ l. absurd (omega (arith, l)), λ l. h.all_open o settled (contains t.hand (o, settled) (has_item t.hand k (o, settled) at)))
 
   -- the verdicts up to one more item
   pub judged_more : (t0 t u : TicketView P T) (k : ℕ) (v : Verdict P N) (vs new : List (Verdict P N)) → KeepsTicket t0 t → KeepsTicket t u → Judges b t k v → vs ≡ map b.verdict_of (take k (items_of t0.hand)) → new ≡ vs ++ v ∷ [] → KeepsTicket t0 u × (new ≡ map b.verdict_of (take (k + 1) (items_of t0.hand)))
   judged_more t0 t u k v vs new first second judges before pushed =
       let item : slice_get t0.hand k ≡ Some (judges.0, judges.1.0) = ap (λ (z : List (Obl P × Bool)). slice_get z k) (sym first.hand) ∙ judges.1.1 in
-      let there : slice_get (items_of t0.hand) k ≡ Some judges.0 = map_get (λ (z : Obl P × Bool). z.0) t0.hand k (judges.0, judges.1.0) item in
+      let there : slice_get (items_of t0.hand) k ≡ Some judges.0 = mapped_at (λ (z : Obl P × Bool). z.0) t0.hand k (judges.0, judges.1.0) item in
       let more : map b.verdict_of (take (suc k) (items_of t0.hand)) ≡ map b.verdict_of (take k (items_of t0.hand)) ++ b.verdict_of judges.0 ∷ [] = map_push b.verdict_of (items_of t0.hand) k judges.0 there in
       let next : suc k ≡ k + 1 = omega arith in (
         record { worker = second.worker ∙ first.worker; file = second.file ∙ first.file; hand = second.hand ∙ first.hand },

@@ -1,13 +1,11 @@
 -- Files that are held, and that are put back.
-use Rattle.std.proofs.Common.{◌≡◌, ℕ, ◌+◌, ◌<◌, ◌≤◌, sym, ◌∙◌, ap, subst, inl, inr, arith}
+use Rattle.std.proofs.Common.{◌≡◌, ℕ, ◌+◌, ◌<◌, ◌≤◌, ap, subst, inl, inr, arith}
 use Rattle.std.proofs.lemmas.Bool.{cases_eq}
 use Rattle.po_base.specs.declared.numbers.FileNo.{FileNo}
 use Rattle.po_core.specs.Core.{CoreState, IsHeld, Frees}
 use Rattle.po_worker.specs.Alone.{NoneHeld}
 use Rattle.po_worker.specs.Work.{HoldsNoMore}
-
-pub same_file : (f g : FileNo) → f.0 ≡ g.0 → f ≡ g
-same_file f g q = ap (λ (n : ℕ). let y : FileNo = record { 0 = n } in y) q
+use Rattle.po_marks.proofs.InLine.{same_file}
 
 module _ {P N : Type 0} where
   -- a file is free, and the others are held as before

@@ -8,7 +8,7 @@ use Rattle.po_base.specs.declared.numbers.NodeNo.{NodeNo}
 use Rattle.po_core.specs.Book.{Book, IsBook}
 use Rattle.po_core.specs.declared.obl.Verdict.{Verdict}
 use Rattle.po_core.specs.declared.obl.Verdict.TheVariants.{Open, Delegated}
-use Rattle.po_core.specs.Lists.{Has, has, contains}
+use Rattle.po_lists.proofs.Members.{Has, has, contains}
 
 -- the first and the third ask something at node 0
 abbrev pub own_places : ℕ → List (NodeNo × ℕ)

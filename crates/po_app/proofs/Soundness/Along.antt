@@ -4,7 +4,7 @@ use Rattle.std.specs.Prelude.{List, All}
 use Rattle.po_ir.specs.declared.project.Project.{Project}
 use Rattle.po_straight.specs.declared.definition.Definition.{Definition}
 use Rattle.po_straight.specs.Definitions.{IsFile}
-use Rattle.po_core.specs.Lists.{Has}
+use Rattle.po_lists.proofs.Members.{Has}
 use Rattle.po_core.specs.declared.report.Report.{Report}
 use Rattle.po_pred.specs.declared.pred.Pred.{Pred}
 use Rattle.po_app.specs.declared.rule.Rule.{Rule}

@@ -7,7 +7,7 @@ use Rattle.po_ir.specs.declared.graph.Node.{Node}
 use Rattle.po_ir.specs.declared.project.Function.{Function}
 use Rattle.po_ir.specs.declared.project.Project.{Project}
 use Rattle.po_core.specs.Book.{IsPrimary}
-use Rattle.po_core.specs.Lists.{Has, contains}
+use Rattle.po_lists.proofs.Members.{Has, contains}
 use Rattle.po_core.specs.declared.obl.Cause.TheVariants.{Primary}
 use Rattle.po_core.specs.declared.obl.Obl.{Obl}
 use Rattle.po_core.specs.declared.obl.Verdict.{Verdict}

@@ -13,7 +13,7 @@ use Rattle.po_ir.specs.declared.instr.Instr.TheVariants.{Call}
 use Rattle.po_ir.specs.declared.graph.Node.{Node}
 use Rattle.po_ir.specs.declared.project.Function.{Function}
 use Rattle.po_ir.specs.declared.project.Project.{Project}
-use Rattle.po_core.specs.Lists.{Has, contains}
+use Rattle.po_lists.proofs.Members.{Has, contains}
 use Rattle.po_core.specs.declared.obl.Cause.TheVariants.{Support}
 use Rattle.po_core.specs.declared.obl.Obl.{Obl}
 use Rattle.po_core.specs.declared.report.Report.{Report}

@@ -3,7 +3,7 @@ use Rattle.std.proofs.Common.{◌≡◌, List, [], ◌∷◌, inl, inr}
 use Rattle.std.specs.Ordering.{eq_by_cmp}
 use Rattle.std.proofs.lemmas.Bool.{cases_Bool, both_ways}
 use Rattle.po_core.specs.Decided.{IsDecided}
-use Rattle.po_core.specs.Lists.{Has}
+use Rattle.po_lists.proofs.Members.{Has}
 use Rattle.po_pred.specs.declared.pred.Pred.{Pred}
 use Rattle.po_pred.specs.Order.{pred_cmp}
 use Rattle.po_pred.specs.OrderLaws.{equal_are_same}

@@ -17,7 +17,7 @@ use Rattle.po_straight.specs.declared.definition.Definition.{Definition}
 use Rattle.po_core.specs.Book.{IsPrimary, IsSupport}
 use Rattle.po_core.specs.Decided.{IsDecided, both_decided, functions_decided, obligations_decided}
 use Rattle.po_core.specs.Least.{AreClosed, IsReported, IsNeeded}
-use Rattle.po_core.specs.Lists.{Has, has, contains}
+use Rattle.po_lists.proofs.Members.{Has, has, contains}
 use Rattle.po_core.specs.Order.{obl_cmp, assumption_cmp}
 use Rattle.po_core.specs.declared.obl.Cause.TheVariants.{Primary, Support}
 use Rattle.po_core.specs.declared.obl.Obl.{Obl}

@@ -7,7 +7,7 @@ use Rattle.std.proofs.lemmas.List.Elements.{All-nil, All-cons}
 use Rattle.po_base.specs.declared.numbers.FunNo.{FunNo}
 use Rattle.po_base.specs.declared.operand.Opnd.TheVariants.{Num}
 use Rattle.po_ir.specs.declared.instr.Callee.TheVariants.{Fun}
-use Rattle.po_core.specs.Lists.{Has, has}
+use Rattle.po_lists.proofs.Members.{Has, has}
 use Rattle.po_pred.specs.declared.pred.Over.{Over}
 use Rattle.po_pred.specs.declared.pred.Over.TheVariants.{Sub, Div}
 use Rattle.po_pred.specs.declared.pred.Place.{Place}

@@ -1,7 +1,7 @@
 use Rattle.std.proofs.Common.{refl, sym, subst}
 use Rattle.po_core.specs.Core.{AreApart}
 use Rattle.po_core.specs.Order.{assumption_cmp}
-use Rattle.ledger_tests.proofs.Ascending.{ascends_itself, assumption_total, assumption_equal, moved_same, sorted_alike, tied_are_same}
+use Rattle.po_ledger.proofs.Ascending.{ascends_itself, assumption_total, assumption_equal, moved_same, sorted_alike, tied_are_same}
 use Rattle.ledger_tests.proofs.reporting.ascending_assumptions.Goals as goal
 
 pub returns-clause-all : goal.returns-clause-all

@@ -1,5 +1,5 @@
 use Rattle.std.proofs.Common.{refl}
-use Rattle.ledger_tests.proofs.Ascending.{lines_ascend, moved_lines, tied_are_same}
+use Rattle.po_ledger.proofs.Ascending.{lines_ascend, moved_lines, tied_are_same}
 use Rattle.ledger_tests.proofs.reporting.ascending_lines.Goals as goal
 
 pub returns-clause-all : goal.returns-clause-all

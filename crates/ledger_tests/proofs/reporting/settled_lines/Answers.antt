@@ -1,4 +1,4 @@
-use Rattle.ledger_tests.proofs.Lined.{lines_more}
+use Rattle.po_ledger.proofs.Lined.{lines_more}
 use Rattle.ledger_tests.proofs.reporting.settled_lines.Goals as goal
 
 pub loop-i-preserved : goal.loop-i-preserved

@@ -1,6 +1,6 @@
 use Rattle.std.proofs.Common.{take}
 use Rattle.std.proofs.lemmas.List.{take_all}
-use Rattle.po_core.specs.Lists.{has}
+use Rattle.po_lists.proofs.Members.{has}
 use Rattle.po_core.specs.declared.event.Mark.TheVariants.{Untaken}
 use Rattle.po_ledger.proofs.Lists.{read_in}
 use Rattle.ledger_tests.proofs.Walked.{none_more}

@@ -3,8 +3,9 @@ use Rattle.std.proofs.Common.{◌∙◌, ap, subst, sym}
 use Rattle.po_memory.specs.declared.value.Byte.{Byte}
 use Rattle.std.specs.Prelude.{List}
 use Rattle.po_operate.specs.Copying.{HasRoom}
-use Rattle.po_operate.proofs.Bytes.{bytes_size, copied_size}
+use Rattle.po_operate.proofs.Bytes.{bytes_size}
 use Rattle.po_operate.proofs.accesses.copy_between.Goals as goal
+use Rattle.po_memory.proofs.Came.{copied_size}
 
 pub overwrite-requires : goal.overwrite-requires
 overwrite-requires c =

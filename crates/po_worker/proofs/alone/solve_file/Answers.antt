@@ -1,15 +1,14 @@
 use Rattle.std.proofs.Common.{sym, subst}
-use Rattle.po_core.specs.declared.event.Event.TheVariants.{Take, Ask}
 use Rattle.po_ledger.specs.Hands.{Extends}
 use Rattle.po_ledger.specs.View.{LedgerView}
 use Rattle.po_worker.specs.Alone.{NoneHeld}
-use Rattle.po_worker.proofs.Draining.{asked_wait, does_extends, extends_none, extends_twice, file_advances, handed_out, handed_some}
-use Rattle.po_worker.proofs.General.{on_err}
+use Rattle.po_worker.proofs.Draining.{asked_wait, extends_none, file_advances, handed_out, handed_some}
+use Rattle.po_lists.proofs.Results.{on_err-always}
 use Rattle.po_worker.proofs.Handed.{asked_done, handed_open}
 use Rattle.po_worker.proofs.alone.solve_file.Goals as goal
 
 pub returns-in_err-ticket-clause-err : goal.returns-in_err-ticket-clause-err
-returns-in_err-ticket-clause-err g c = on_err _ (subst (λ (z : LedgerView _ _ _). NoneHeld z.state) (sym c.in_err-ticket.ensures.err) c.requires)
+returns-in_err-ticket-clause-err g c = on_err-always _ (subst (λ (z : LedgerView _ _ _). NoneHeld z.state) (sym c.in_err-ticket.ensures.err) c.requires)
 
 pub returns-in_err-ticket-clause-journal : goal.returns-in_err-ticket-clause-journal
 returns-in_err-ticket-clause-journal g c = subst (λ (z : LedgerView _ _ _). Extends c.args.ledger.now.journal z.journal) (sym c.in_err-ticket.ensures.err) (extends_none _)

@@ -1,4 +1,4 @@
-use Rattle.ledger_tests.proofs.Reported.{least_report}
+use Rattle.po_ledger.proofs.Reported.{least_report}
 use Rattle.ledger_tests.proofs.ledger.ListLedger.least_report.Goals as goal
 
 pub ascending_assumptions-requires : goal.ascending_assumptions-requires

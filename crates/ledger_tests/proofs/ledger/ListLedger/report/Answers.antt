@@ -1,5 +1,5 @@
 use Rattle.std.proofs.lemmas.Bool.{both_ways}
-use Rattle.ledger_tests.proofs.Reported.{is_busy, is_quiet}
+use Rattle.po_ledger.proofs.Reported.{is_busy, is_quiet}
 use Rattle.ledger_tests.proofs.ledger.ListLedger.report.Goals as goal
 
 pub untaken_count-untaken-requires : goal.untaken_count-untaken-requires

@@ -1,6 +1,6 @@
 use Rattle.std.proofs.Common.{◌∙◌, ◌++◌, ◌∷◌, [], ap, refl, sym, arith, map, false}
 use Rattle.po_core.specs.declared.event.Event.TheVariants.{Take}
-use Rattle.po_ledger.proofs.General.{on_err}
+use Rattle.po_lists.proofs.Results.{on_err-always}
 use Rattle.po_ledger.proofs.Kept.{known_there}
 use Rattle.po_ledger.proofs.Posted.{same_view}
 use Rattle.po_ledger.proofs.Taken.{take_place, take_shelf, new_ticket, take_keeps, hands_out}
@@ -32,4 +32,4 @@ pub returns-clause-tables : goal.returns-clause-tables
 returns-clause-tables g c = tables_handed g.J.Naming.book.files [] _ _ _ _ (take_shelf _ _ _ (g.met.R.Rulebook.lawful c.self.inside.book.now) _ _ c.self.invariant c.legal_lists_are_orderly.ensures _ c.self.view_is c.args.worker c.args.file c.requires) c.self.view_is refl refl refl refl
 
 pub returns-in_err-make_room-clause-err : goal.returns-in_err-make_room-clause-err
-returns-in_err-make_room-clause-err g c = on_err _ (same_view c.self.inside.marks.items c.self.inside.marks.items c.self.inside.hands.items c.self.inside.assumed.items c.self.inside.assumed.items c.self.inside.journal.items c.make_room.new.journal.items _ _ _ refl refl c.in_err-make_room.ensures.items c.in_err-make_room.ensures.err ∙ c.self.view_is)
+returns-in_err-make_room-clause-err g c = on_err-always _ (same_view c.self.inside.marks.items c.self.inside.marks.items c.self.inside.hands.items c.self.inside.assumed.items c.self.inside.assumed.items c.self.inside.journal.items c.make_room.new.journal.items _ _ _ refl refl c.in_err-make_room.ensures.items c.in_err-make_room.ensures.err ∙ c.self.view_is)

@@ -1,17 +1,15 @@
-use Rattle.std.proofs.Common.{◌∙◌, ◌++◌, ◌∷◌, [], ap, refl, arith, subst, sym}
-use Rattle.po_core.specs.Book.{Book}
-use Rattle.po_core.specs.Core.{IsAssumed, IsKnown}
+use Rattle.std.proofs.Common.{◌∙◌, ◌++◌, ◌∷◌, [], ap, refl, arith}
 use Rattle.po_core.specs.declared.event.Event.TheVariants.{Post}
 use Rattle.po_marks.specs.Waiting.{Marking}
 use Rattle.po_ledger.proofs.Assuming.{supports_are}
-use Rattle.po_ledger.proofs.General.{on_err}
+use Rattle.po_lists.proofs.Results.{on_err-always}
 use Rattle.po_ledger.proofs.Kept.{order_here}
 use Rattle.po_ledger.proofs.Queued.{queued_kept, queued_view, waits_there}
 use Rattle.po_ledger.proofs.Posted.{callers_there, kept_view, post_there, post_keeps, posts_item, same_view}
 use Rattle.po_ledger.proofs.ledger.Ledger.post.Goals as goal
 
 pub returns-in_err-make_room-clause-err : goal.returns-in_err-make_room-clause-err
-returns-in_err-make_room-clause-err g c = on_err _ (same_view c.self.inside.marks.items c.self.inside.marks.items c.self.inside.hands.items c.self.inside.assumed.keys c.self.inside.assumed.keys c.self.inside.journal.items c.make_room.new.journal.items _ _ c.self.inside.shelves.items refl refl c.in_err-make_room.ensures.items c.in_err-make_room.ensures.err ∙ c.self.view_is)
+returns-in_err-make_room-clause-err g c = on_err-always _ (same_view c.self.inside.marks.items c.self.inside.marks.items c.self.inside.hands.items c.self.inside.assumed.keys c.self.inside.assumed.keys c.self.inside.journal.items c.make_room.new.journal.items _ _ c.self.inside.shelves.items refl refl c.in_err-make_room.ensures.items c.in_err-make_room.ensures.err ∙ c.self.view_is)
 
 pub assume-requires-clause-there : goal.assume-requires-clause-there
 assume-requires-clause-there g c = post_there _ _ _ _ c.self.invariant.0 c.legal_lists_are_orderly.ensures c.args.t.now _ c.self.view_is c.args.k c.args.q.now c.requires.can c.item-obl.result.now c.item-obl.ensures

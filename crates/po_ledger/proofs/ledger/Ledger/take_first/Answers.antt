@@ -6,7 +6,7 @@ use Rattle.po_core.specs.declared.obl.Obl.{Obl}
 use Rattle.po_ledger.specs.Calls.{Counts}
 use Rattle.po_ledger.specs.Parts.{HandAt}
 use Rattle.po_ledger.proofs.Counted.{held_below, held_more}
-use Rattle.po_ledger.proofs.General.{on_err}
+use Rattle.po_lists.proofs.Results.{on_err-always}
 use Rattle.po_ledger.proofs.Kept.{order_here}
 use Rattle.po_ledger.proofs.Starts.{first_can, none_can}
 use Rattle.po_ledger.proofs.Posted.{same_view}
@@ -47,7 +47,7 @@ pub returns-clause-ok : goal.returns-clause-ok
 returns-clause-ok g c = (hands_out _ _ _ (g.met.R.Rulebook.lawful c.self.inside.book.now) _ _ c.self.invariant.0 c.legal_lists_are_orderly.ensures _ c.self.view_is c.args.worker c.in-Some.file (first_can _ _ _ c.self.view_is c.self.inside.marks refl c.self.inside.hands.items c.self.invariant.1 refl c.in-Some.file c.in-Some.ensures) c.into_list-items.result (subst (λ (z : List (Obl _)). TakesFrom (g.R.Rulebook.meaning c.self.inside.book.now) c.self.inside.marks.items c.in-Some.file z) (sym c.into_list-items.ensures) c.draw.ensures.takes) _ c.draw.ensures.marks c.set_hand.ensures refl (c.append.ensures.items ∙ ap (λ z. z ++ Take c.args.worker c.in-Some.file ∷ []) c.in_ok-make_room.ensures.items) (let few = drawn_room c.self.inside.marks.queues c.in-Some.file.0 (let w = (take_place _ _ _ (g.met.R.Rulebook.lawful c.self.inside.book.now) _ _ c.self.invariant.0 c.legal_lists_are_orderly.ensures _ c.self.view_is c.args.worker c.in-Some.file (first_can _ _ _ c.self.view_is c.self.inside.marks refl c.self.inside.hands.items c.self.invariant.1 refl c.in-Some.file c.in-Some.ensures)) in omega (arith, w, c.self.invariant.0.hands_there, c.self.invariant.1.waiting.there)) _ _ c.draw.ensures.count c.in_ok-count.ensures.count in let long = ap length c.into_list-items.ensures in omega (arith, few, long, c.in_ok-make_room.ensures.ok, c.append.ensures.room)) c.into_list.result c.swap_shelf-tables.result (c.into_list.ensures ∙ (c.draw.ensures.open ∙ ap (λ (z : List (Obl _)). map (λ o. (o, false)) z) (sym c.into_list-items.ensures))), tables_handed c.self.inside.shelves.items c.args.self.now (ap (λ (z : LedgerView _ _ _). z.tables) c.self.view_is) _ _ c.new.result c.swap_shelf-tables.ensures.before c.new.ensures c.swap_shelf-tables.ensures.after)
 
 pub returns-in_err-make_room-clause-err : goal.returns-in_err-make_room-clause-err
-returns-in_err-make_room-clause-err g c = on_err _ (same_view c.self.inside.marks.items c.self.inside.marks.items c.self.inside.hands.items c.self.inside.assumed.keys c.self.inside.assumed.keys c.self.inside.journal.items c.make_room.new.journal.items _ _ c.self.inside.shelves.items refl refl c.in_err-make_room.ensures.items c.in_err-make_room.ensures.err ∙ c.self.view_is)
+returns-in_err-make_room-clause-err g c = on_err-always _ (same_view c.self.inside.marks.items c.self.inside.marks.items c.self.inside.hands.items c.self.inside.assumed.keys c.self.inside.assumed.keys c.self.inside.journal.items c.make_room.new.journal.items _ _ c.self.inside.shelves.items refl refl c.in_err-make_room.ensures.items c.in_err-make_room.ensures.err ∙ c.self.view_is)
 
 pub one_more-self-inside-requires : goal.one_more-self-inside-requires
 one_more-self-inside-requires g c =
