@@ -14,7 +14,7 @@ use Rattle.po_straight.specs.declared.expression.Expression.{Expression, fold-Ex
 use Rattle.po_straight.specs.declared.expression.Expression.TheVariants as e
 use Rattle.po_straight.specs.declared.expression.Expression.TheOpen.{Expression-F}
 use Rattle.po_straight.specs.declared.definition.Definition.{Definition}
-use Rattle.po_core.specs.Single.{one_least_report}
+use Rattle.po_core.proofs.Single.{one_least_report}
 use Rattle.po_core.specs.declared.report.Report.{Report}
 use Rattle.po_pred.specs.declared.pred.Pred.{Pred}
 use Rattle.po_pred.specs.Order.{pred_cmp}

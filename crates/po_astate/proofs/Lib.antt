@@ -1,1 +1,5 @@
 mod Ends
+pub mod ValuesLaws
+pub mod StatesLaws
+pub mod RoundingLaws
+pub mod ProperStays

@@ -1,12 +1,8 @@
 pub mod Each
 pub mod Values
-pub mod ValuesLaws
 pub mod States
-pub mod StatesLaws
 pub mod Rounding
-pub mod RoundingLaws
 pub mod Ranks
 pub mod Heights
 pub mod Proper
 pub mod ProperRanks
-pub mod ProperStays

@@ -25,7 +25,7 @@ use Rattle.po_bases.specs.Maps.{IsMap, IsAscending, AreAfter, MapBelow}
 use Rattle.po_bases.specs.Base.{base_cmp, base_total, base_same}
 use Rattle.po_bases.specs.Bases.{IsGrain, IsEntry, EntryBelow, IsBases, BasesBelow}
 use Rattle.po_bases.specs.Filled.{IsFilled, FilledBelow, node_of, HeapEntryBelow, IsHeapEntry, HeapBelow}
-use Rattle.po_bases.specs.FilledLaws.{when_less}
+use Rattle.po_bases.proofs.FilledLaws.{when_less}
 use Rattle.po_astate.specs.Values.{Rel, RelBelow, IsValue, ValueBelow}
 use Rattle.po_astate.specs.States.{StateBelow}
 use Rattle.po_astate.specs.Ranks.{IsRanked, ranked_among, ranked_below, ranked_alone, ranked_pairs, ranked_along, rank_from_none, rank_to_none, ranked_from_none, ranked_to_none, ranked_each, ranked_maps, map_rank}

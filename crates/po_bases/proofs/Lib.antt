@@ -1,1 +1,4 @@
 mod Ends
+pub mod Covered
+pub mod BasesLaws
+pub mod FilledLaws

@@ -3,7 +3,5 @@ pub mod Maps
 pub mod Intervals
 pub mod Base
 pub mod Bases
-pub mod BasesLaws
 pub mod Cover
 pub mod Filled
-pub mod FilledLaws

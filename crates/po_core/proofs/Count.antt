@@ -13,7 +13,7 @@ use Rattle.po_core.specs.declared.obl.Verdict.{Verdict}
 use Rattle.po_core.specs.Marks.{settled_taken}
 use Rattle.po_core.proofs.Once.{stays_settled, runs_settled}
 use Rattle.po_core.proofs.Orderly.{Agrees, agrees_step, agrees_at_start}
-use Rattle.po_core.specs.Lists.{apart_within}
+use Rattle.po_core.proofs.Lists.{apart_within}
 use Rattle.po_core.proofs.Possible.{all_possible}
 use Rattle.po_lists.proofs.Members.{Has, has}
 

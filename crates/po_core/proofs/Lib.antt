@@ -6,3 +6,5 @@ pub mod Judged
 pub mod Once
 pub mod Quiet
 pub mod Count
+pub mod Single
+pub mod Lists

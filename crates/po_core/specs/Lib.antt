@@ -3,7 +3,5 @@ pub mod Order
 pub mod Least
 pub mod Core
 pub mod Theorem
-pub mod Lists
 pub mod Decided
 pub mod Marks
-pub mod Single

@@ -6,7 +6,7 @@ use Rattle.po_core.specs.Book.{Book}
 use Rattle.po_core.specs.Core.{AreApart, CoreState, HasMark, IsHeld, Takes}
 use Rattle.po_core.specs.declared.event.Mark.TheVariants.{Taken}
 use Rattle.po_core.specs.declared.obl.Obl.{Obl}
-use Rattle.po_core.specs.Lists.{apart_within}
+use Rattle.po_core.proofs.Lists.{apart_within}
 use Rattle.po_core.specs.Decided.{files_decided}
 use Rattle.po_ledger.specs.View.{IsRoomFor}
 use Rattle.po_lists.proofs.Members.{has, contains}

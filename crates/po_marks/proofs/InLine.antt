@@ -7,7 +7,7 @@ use Rattle.std.proofs.lemmas.List.Elements.{Contains-push_cases, Contains-push, 
 use Rattle.std.proofs.lemmas.Option.{slice_get_within, same_Some}
 use Rattle.po_base.specs.declared.numbers.FileNo.{FileNo}
 use Rattle.po_core.specs.Core.{AreApart}
-use Rattle.po_core.specs.Lists.{apart_within}
+use Rattle.po_core.proofs.Lists.{apart_within}
 use Rattle.po_core.specs.declared.obl.Obl.{Obl}
 use Rattle.po_marks.specs.Waiting.{CanBeTaken, free, is_ready, is_some_item, lengthened, line_up}
 use Rattle.po_marks.specs.declared.queue.Queue.{Queue}

@@ -14,7 +14,7 @@ use Rattle.po_base.specs.declared.numbers.FunNo.{FunNo}
 use Rattle.po_base.specs.declared.numbers.NodeNo.{NodeNo}
 use Rattle.po_core.specs.Book.{Book, IsBook, file_of_obl}
 use Rattle.po_core.specs.Core.{AreApart}
-use Rattle.po_core.specs.Lists.{apart_within}
+use Rattle.po_core.proofs.Lists.{apart_within}
 use Rattle.po_core.specs.Marks.{settled_untaken, taken_untaken}
 use Rattle.po_core.specs.declared.event.Mark.{Mark}
 use Rattle.po_core.specs.declared.event.Mark.TheVariants.{Untaken, Taken, Settled}

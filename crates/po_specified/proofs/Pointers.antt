@@ -5,7 +5,7 @@ use Rattle.po_arith.specs.declared.int_type.IntType.{IntType}
 use Rattle.po_types.specs.declared.ctype.CType.{CType, out-CType}
 use Rattle.po_types.specs.declared.ctype.CType.TheVariants as c
 use Rattle.po_types.specs.declared.ctype.CType.TheOpen.{CType-F}
-use Rattle.po_types.specs.TypesLaws.{out_Void, out_Int, out_Ptr, out_Array, out_Struct, out_Fun}
+use Rattle.po_types.proofs.TypesLaws.{out_Void, out_Int, out_Ptr, out_Array, out_Struct, out_Fun}
 use Rattle.po_typed.specs.BaseTypes.{ArePointers, pointer_itself, array_of_pointers, starred}
 
 abbrev Parts : CType-F CType → Type 0

@@ -19,7 +19,7 @@ use Rattle.po_types.specs.declared.ctype.CType.TheVariants as c
 use Rattle.po_types.specs.declared.layout.Layout.{Layout}
 use Rattle.po_types.specs.Integers.{int_type, unsigned_type}
 use Rattle.po_types.specs.Types.{size_of, as_object, counts_bytes}
-use Rattle.po_types.specs.TypesLaws.{bytes_Int, bytes_Array}
+use Rattle.po_types.proofs.TypesLaws.{bytes_Int, bytes_Array}
 use Rattle.po_types.specs.declared.ctype.CType.TheOpen.{CType-F}
 use Rattle.po_typed.specs.Scopes.{Context, Block}
 use Rattle.po_typed.specs.Constants.{IsNumber}

@@ -1,5 +1,5 @@
 -- Declarations keep that what is in force is founded.
-use Rattle.std.proofs.Common.{◌≡◌, ℕ, suc, ◌≤◌, List, [], ◌∷◌, ◌++◌, map, max, length, get_or, Option, Some, None, IsSome, Bool, true, false, refl, sym, ap, ◌∙◌, subst, arith, codes, Contains, All}
+use Rattle.std.proofs.Common.{◌≡◌, ℕ, ◌≤◌, List, [], ◌∷◌, map, length, get_or, Option, Some, None, Bool, false, refl, sym, ap, ◌∙◌, subst, arith}
 use Rattle.std.specs.Prelude.{ℤ}
 use Rattle.std.proofs.lemmas.List.Elements.{All-nil, All-cons, All-contains, All-from_recursion, All-weaker, All-push}
 use Rattle.std.proofs.Math.Nat.{max-le}
@@ -20,10 +20,10 @@ use Rattle.po_types.specs.declared.ctype.CType.TheVariants as c
 use Rattle.po_types.specs.declared.ctype.CType.TheOpen.{CType-F}
 use Rattle.po_types.specs.Integers.{signed_type, unsigned_type, bool_type, char_type, int_type, long_type, size_type}
 use Rattle.po_types.specs.Nesting.{structs_below, names_below, greatest, IsWellFounded}
-use Rattle.po_types.specs.NestingLaws.{below_Ptr, below_Array, below_Struct, below_Fun}
+use Rattle.po_types.proofs.NestingLaws.{below_Ptr, below_Array, below_Struct, below_Fun}
 use Rattle.po_types.specs.Types.{completes, composite}
 use Rattle.po_typed.specs.Forms.{SpecifierLayer}
-use Rattle.po_typed.specs.Scopes.{Context, automatic, in_register, global, function, local, type_name, constant, enum_tag, no_block, in_new_block, with_struct, next_struct}
+use Rattle.po_typed.specs.Scopes.{Context, automatic, in_register, global, function, local, type_name, constant, enum_tag, no_block, in_new_block, next_struct}
 use Rattle.po_typed.specs.BaseTypes.{word_types, IsWordType, starred}
 use Rattle.po_typed.specs.Expressions.{Pair, IsArray, sized_first, unsized_first, Sized, no_more_sizes, one_more_size}
 use Rattle.po_typed.specs.Initialisers.{Place, Initialises, scalar_value, scalar_in_braces, struct_value, struct_list, array_list, unsized_list, text, unsized_text}
@@ -32,7 +32,7 @@ use Rattle.po_typed.specs.Statements.{Receives, receives_nothing, receives_void,
 use Rattle.po_typed.specs.Environments.{Shows}
 use Rattle.po_typed.specs.Founded.{meaning_below, HasTag, WordsFit, TagsFit, IsFounded, first_context}
 use Rattle.po_typed.proofs.OneSpecifier.{some_is_not_none}
-use Rattle.po_typed.proofs.Founded.{Grows, Keeps, MembersFit, unchanged, keeps_then, meaning_fits, meaning_here_fits, within, tag_is_there, tag_here_is_there, keeps_word, keeps_tag, keeps_retold, founded_inside, keeps_back, keeps_struct, longer_by_one, new_is_tagged, keeps_new_struct, keeps_completed}
+use Rattle.po_typed.proofs.Founded.{Keeps, MembersFit, unchanged, keeps_then, meaning_fits, meaning_here_fits, within, tag_is_there, tag_here_is_there, keeps_word, keeps_tag, keeps_retold, founded_inside, keeps_back, keeps_struct, longer_by_one, new_is_tagged, keeps_new_struct, keeps_completed}
 
 -- and a type names structs that are there
 record KeepsType (ctx : Context) (t : CType) (a : Context) : Type 0 where

@@ -17,7 +17,7 @@ use Rattle.po_types.specs.declared.ctype.CType.{CType}
 use Rattle.po_types.specs.declared.ctype.CType.TheVariants as c
 use Rattle.po_types.specs.Laws.{OneFormat, OneLayout}
 use Rattle.po_types.specs.Types.{integer, pointee, elements, decays, decayed, signature, composite}
-use Rattle.po_types.specs.TypesLaws.{out_Int, out_Ptr, out_Array}
+use Rattle.po_types.proofs.TypesLaws.{out_Int, out_Ptr, out_Array}
 use Rattle.po_typed.specs.Scopes.{Context, Meaning, global, function, type_name, meaning, word_here, IsNew, with_word, in_new_block, back_in}
 use Rattle.po_typed.specs.BaseTypes.{no_more_words, word_of_type, word_types, IsWordType, starred}
 use Rattle.po_typed.specs.Expressions.{Pair}

@@ -19,7 +19,7 @@ use Rattle.po_types.specs.declared.ctype.CType.TheOpen.{CType-F}
 use Rattle.po_types.specs.declared.format.Spec.{Spec}
 use Rattle.po_types.specs.Integers.{bool_type}
 use Rattle.po_types.specs.Formats.{IsFormat}
-use Rattle.po_types.specs.TypesLaws.{out_Void, out_Int, out_Ptr}
+use Rattle.po_types.proofs.TypesLaws.{out_Void, out_Int, out_Ptr}
 use Rattle.po_typed.specs.Forms.{Layer}
 use Rattle.po_typed.specs.Scopes.{Context, Meaning, global, function, local, constant, meaning}
 use Rattle.po_typed.specs.Constants.{AreStrings, Becomes, Computes, Shifts, Compares}

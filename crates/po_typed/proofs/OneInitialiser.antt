@@ -12,7 +12,7 @@ use Rattle.po_types.specs.declared.ctype.CType.TheOpen.{CType-F}
 use Rattle.po_types.specs.Integers.{bool_type}
 use Rattle.po_types.specs.Types.{integer}
 use Rattle.po_types.specs.Laws.{OneFormat}
-use Rattle.po_types.specs.TypesLaws.{out_Int, out_Ptr, out_Array, out_Struct}
+use Rattle.po_types.proofs.TypesLaws.{out_Int, out_Ptr, out_Array, out_Struct}
 use Rattle.po_typed.specs.Scopes.{Context}
 use Rattle.po_typed.specs.Operands.{value_type, value_layer}
 use Rattle.po_typed.specs.Constants.{AreStrings}

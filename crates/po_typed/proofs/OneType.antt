@@ -10,7 +10,7 @@ use Rattle.po_types.specs.declared.ctype.CType.TheVariants as c
 use Rattle.po_types.specs.declared.ctype.CType.TheOpen.{CType-F}
 use Rattle.po_types.specs.Integers.{promoted, common, int_type, difference_type}
 use Rattle.po_types.specs.Types.{integer, integer_layer, pointee, pointee_layer, elements, elements_layer, structure, structure_layer, signature, signature_layer, Agree, equal, first_without_size, second_without_size, composite}
-use Rattle.po_types.specs.TypesLaws.{out_Void, out_Int, out_Ptr, out_Array, out_Struct, out_Fun}
+use Rattle.po_types.proofs.TypesLaws.{out_Void, out_Int, out_Ptr, out_Array, out_Struct, out_Fun}
 use Rattle.po_typed.specs.Scopes.{Context}
 use Rattle.po_typed.specs.Operands.{Tested, tested_number, tested_pointer, Stepped, stepped_number, stepped_pointer, Combines, arithmetic, shift, numbers_compared, pointers_compared, pointer_plus, plus_pointer, pointer_minus, difference, compared_as, arithmetic_operators, shift_operators, equality_operators, comparisons}
 use Rattle.po_lists.proofs.Options.{one_some}

@@ -7,3 +7,5 @@ mod FormatsRead
 mod OneLayout
 mod Promoting
 mod Lays
+pub mod NestingLaws
+pub mod TypesLaws

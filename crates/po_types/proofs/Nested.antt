@@ -5,7 +5,7 @@ use Rattle.po_types.specs.declared.ctype.CType.{CType}
 use Rattle.po_types.specs.declared.ctype.CType.TheVariants as c
 use Rattle.po_types.specs.declared.env.Env.{Env}
 use Rattle.po_types.specs.Nesting.{greatest, depth, structs_below, IsWellFounded, deepest, weight}
-use Rattle.po_types.specs.NestingLaws.{depth_Ptr, depth_Array, depth_Struct, depth_Fun, below_Ptr, below_Array, below_Struct, below_Fun}
+use Rattle.po_types.proofs.NestingLaws.{depth_Ptr, depth_Array, depth_Struct, depth_Fun, below_Ptr, below_Array, below_Struct, below_Fun}
 
 greatest_at : {X : Type 0} (f : X → ℕ) (xs : List X) (i : ℕ) (d : X) → i < length xs → f (get_or xs i d) ≤ greatest (map f xs)
 greatest_at f xs i d h = max_bounds (λ ys. greatest (map f ys)) f refl (λ y ys. refl) xs i d h

@@ -5,7 +5,7 @@ use Rattle.std.specs.Prelude.{map, codes, get_or}
 use Rattle.po_types.specs.declared.env.Env.{Env}
 use Rattle.po_types.specs.declared.ctype.CType.{CType, out-CType}
 use Rattle.po_types.specs.declared.ctype.CType.TheOpen.{CType-F}
-use Rattle.po_types.specs.TypesLaws.{out_Void, out_Int, out_Ptr, out_Array, out_Struct, out_Fun}
+use Rattle.po_types.proofs.TypesLaws.{out_Void, out_Int, out_Ptr, out_Array, out_Struct, out_Fun}
 use Rattle.po_types.specs.Spelling.{Spelled, AllSpelled, void, integer, pointer, array, tagged, untagged, function, none, last, more, integer_text, size_text, end_text, comma_and}
 
 module _ (env : Env) where

@@ -6,8 +6,6 @@ pub mod Environments
 pub mod Layouts
 pub mod Spelling
 pub mod Nesting
-pub mod NestingLaws
 pub mod Formats
 pub mod FormatReading
-pub mod TypesLaws
 pub mod Laws

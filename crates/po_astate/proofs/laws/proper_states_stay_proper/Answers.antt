@@ -1,4 +1,4 @@
-use Rattle.po_astate.specs.ProperStays.{joined_proper, rounded_proper}
+use Rattle.po_astate.proofs.ProperStays.{joined_proper, rounded_proper}
 use Rattle.po_astate.proofs.laws.proper_states_stay_proper.Goals as goal
 
 pub returns : goal.returns

@@ -1,4 +1,4 @@
-use Rattle.po_astate.specs.RoundingLaws.{state_stays, state_wider, state_rises}
+use Rattle.po_astate.proofs.RoundingLaws.{state_stays, state_wider, state_rises}
 use Rattle.po_astate.proofs.laws.rounded_states_are_above.Goals as goal
 
 pub returns : goal.returns

@@ -1,5 +1,5 @@
 use Rattle.std.proofs.Common.{refl}
-use Rattle.po_astate.specs.StatesLaws.{tested_join, state_tells}
+use Rattle.po_astate.proofs.StatesLaws.{tested_join, state_tells}
 use Rattle.po_astate.proofs.laws.states_are_joined.Goals as goal
 
 pub returns : goal.returns

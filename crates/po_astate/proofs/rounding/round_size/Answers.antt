@@ -4,7 +4,7 @@ use Rattle.std.proofs.lemmas.Int.{to_z-of_z, to_z_pos}
 use mir.Syntax.{w128}
 use Rattle.po_arith.specs.declared.interval.Interval.{Interval}
 use Rattle.po_interval.specs.Rounding.{low_end}
-use Rattle.po_astate.specs.RoundingLaws.{rounded_at_most, natural_parts}
+use Rattle.po_astate.proofs.RoundingLaws.{rounded_at_most, natural_parts}
 use Rattle.po_astate.proofs.rounding.round_size.Goals as goal
 
 half : (n : ℕ) → n < 2 ^ 64 → n < 2 ^ 127

@@ -1,6 +1,6 @@
 use Rattle.std.proofs.lemmas.List.Elements.{All-from_recursion}
 use Rattle.po_astate.specs.Values.{IsValue}
-use Rattle.po_astate.specs.StatesLaws.{regs_form}
+use Rattle.po_astate.proofs.StatesLaws.{regs_form}
 use Rattle.po_astate.proofs.state_order.join_parts.Goals as goal
 
 pub join_regs-requires-clause-first : goal.join_regs-requires-clause-first

@@ -1,5 +1,5 @@
 use Rattle.std.proofs.Common.{◌≡◌, sym, ◌∙◌, subst, IfOk}
-use Rattle.po_astate.specs.StatesLaws.{joins_to_second, joins_to_first}
+use Rattle.po_astate.proofs.StatesLaws.{joins_to_second, joins_to_first}
 use Rattle.po_astate.proofs.state_order.join_state.Goals as goal
 
 pub returns-then-below_state : goal.returns-then-below_state

@@ -1,5 +1,5 @@
 use Rattle.std.proofs.Common.{◌≡◌, sym, ◌∙◌, subst, IfOk}
-use Rattle.po_astate.specs.ValuesLaws.{joins_to_second, joins_to_first}
+use Rattle.po_astate.proofs.ValuesLaws.{joins_to_second, joins_to_first}
 use Rattle.po_astate.proofs.value_order.join_values.Goals as goal
 
 pub returns-then-value_within : goal.returns-then-value_within

@@ -1,4 +1,4 @@
-use Rattle.po_bases.specs.FilledLaws.{filled_join, facts_join, heaps_join}
+use Rattle.po_bases.proofs.FilledLaws.{filled_join, facts_join, heaps_join}
 use Rattle.po_bases.proofs.laws.facts_are_joined.Goals as goal
 
 pub returns : goal.returns

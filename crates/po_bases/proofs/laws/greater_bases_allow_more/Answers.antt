@@ -1,4 +1,4 @@
-use Rattle.po_bases.specs.Cover.{allows_up}
+use Rattle.po_bases.proofs.Covered.{allows_up}
 use Rattle.po_bases.proofs.laws.greater_bases_allow_more.Goals as goal
 
 pub returns : goal.returns

@@ -1,4 +1,4 @@
-use Rattle.po_bases.specs.Cover.{join_allows_first, join_allows_second}
+use Rattle.po_bases.proofs.Covered.{join_allows_first, join_allows_second}
 use Rattle.po_bases.proofs.laws.joins_of_bases_cover.Goals as goal
 
 pub returns : goal.returns

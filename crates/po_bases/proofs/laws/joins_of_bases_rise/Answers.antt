@@ -1,5 +1,5 @@
 use Rattle.po_bases.specs.General.{join_rises}
-use Rattle.po_bases.specs.BasesLaws.{bases_join}
+use Rattle.po_bases.proofs.BasesLaws.{bases_join}
 use Rattle.po_bases.proofs.laws.joins_of_bases_rise.Goals as goal
 
 pub returns : goal.returns

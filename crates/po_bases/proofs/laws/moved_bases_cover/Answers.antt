@@ -1,4 +1,4 @@
-use Rattle.po_bases.specs.Cover.{moved_allows}
+use Rattle.po_bases.proofs.Covered.{moved_allows}
 use Rattle.po_bases.proofs.laws.moved_bases_cover.Goals as goal
 
 pub returns : goal.returns

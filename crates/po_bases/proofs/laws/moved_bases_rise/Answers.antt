@@ -1,4 +1,4 @@
-use Rattle.po_bases.specs.Cover.{moving_rises}
+use Rattle.po_bases.proofs.Covered.{moving_rises}
 use Rattle.po_bases.proofs.laws.moved_bases_rise.Goals as goal
 
 pub returns : goal.returns

@@ -1,4 +1,4 @@
-use Rattle.po_core.specs.Single.{one_least_report}
+use Rattle.po_core.proofs.Single.{one_least_report}
 use Rattle.po_core.proofs.laws.least_report_is_one.Goals as goal
 
 pub returns : goal.returns

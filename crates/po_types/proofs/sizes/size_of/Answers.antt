@@ -1,5 +1,5 @@
 use Rattle.std.proofs.Common.{rules, arith, ◌≡◌, ◌≤◌, ◌*◌, ◌^◌, sym}
-use Rattle.po_types.specs.TypesLaws.{bytes_Array}
+use Rattle.po_types.proofs.TypesLaws.{bytes_Array}
 use Rattle.po_types.proofs.Large.{too_many, regroup}
 use Rattle.po_types.proofs.sizes.size_of.Goals as goal
 

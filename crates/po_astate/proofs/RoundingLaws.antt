@@ -26,7 +26,7 @@ use Rattle.po_bases.specs.Base.{base_cmp}
 use Rattle.po_bases.specs.Bases.{IsEntry, EntryBelow, IsBases, BasesBelow}
 use Rattle.po_bases.specs.Filled.{FilledBelow, node_of, IsHeapEntry, HeapEntryBelow}
 use Rattle.po_astate.specs.Values.{is_bounded, Rel, IsRel, RelBelow, IsValue, ValueBelow}
-use Rattle.po_astate.specs.ValuesLaws.{between_tells, bounded_within}
+use Rattle.po_astate.proofs.ValuesLaws.{between_tells, bounded_within}
 use Rattle.po_astate.specs.States.{IsState, StateBelow}
 use Rattle.po_astate.specs.Rounding.{round_rel, round_entry, round_bases, round_value, size_from, sizes, round_size, round_heap_entry, round_state}
 use Rattle.po_astate.specs.declared.value.AValue.{AValue}

@@ -12,7 +12,7 @@ use Rattle.po_base.specs.declared.numbers.NodeNo.{NodeNo}
 use Rattle.std.specs.Bool.{Decides}
 use Rattle.std.proofs.lemmas.Bool.Decides.{Decides-and}
 use Rattle.po_bases.specs.Maps.{by_order, maps}
-use Rattle.po_bases.specs.BasesLaws.{lesser_is}
+use Rattle.po_bases.proofs.BasesLaws.{lesser_is}
 use Rattle.po_bases.specs.Filled.{IsAmong, IsBelowAll, IsAscending, IsFilled, FilledBelow, common, common_with, join_filled, has_all, filled_within, IsFact, FactBelow, join_facts, fact_within, node_of, IsHeapEntry, HeapEntryBelow, join_heap_entries, IsHeap, HeapBelow, join_heap}
 use Rattle.po_bases.specs.declared.filled.Filled.{Filled}
 use Rattle.po_bases.specs.declared.filled.Filled.TheVariants.{All, Bytes}

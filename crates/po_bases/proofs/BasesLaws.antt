@@ -1,13 +1,12 @@
 -- Bases are ordered, and their join is the least upper bound.
-use Rattle.std.specs.Prelude.{◌≡◌, ℕ, ◌<◌, ◌≤◌, min, nat_le, Bool, true, false, cond, List, [], ◌∷◌, length, Option, Some, None, ◌⊎◌, ◌↔◌}
-use Rattle.std.proofs.Common.{refl, sym, ap, ◌∙◌, subst, arith, inl, inr}
+use Rattle.std.specs.Prelude.{◌≡◌, ℕ, ◌<◌, ◌≤◌, min, nat_le, Bool, true, false, cond, List, length, Option, Some, None, ◌↔◌}
+use Rattle.std.proofs.Common.{refl, sym, subst, arith, inl, inr}
 use Rattle.std.proofs.lemmas.Bool.{cases_lt}
-use Rattle.po_arith.specs.Hull.{IsInhabited, hull}
 use Rattle.po_bases.specs.General.{IsJoin, IsPartialJoin, IfThere, BelowNone, both_join, AtLeast, at_least, alone, pairs, along, among, renamed, reordered, rejoined, up_to_none, limited}
-use Rattle.po_bases.specs.Intervals.{IsBetween, intervals}
+use Rattle.po_bases.specs.Intervals.{intervals}
 use Rattle.po_bases.specs.Maps.{merged, IsMap, MapBelow, maps, shorter}
 use Rattle.po_bases.specs.Base.{base_cmp, base_total, base_same}
-use Rattle.po_bases.specs.Bases.{IsGrain, IsEntry, EntryBelow, join_entries, entry_cmp, IsBases, BasesBelow, few, join_bases}
+use Rattle.po_bases.specs.Bases.{IsGrain, IsEntry, EntryBelow, join_entries, entry_cmp, IsBases, BasesBelow, join_bases}
 use Rattle.po_bases.specs.declared.base.Base.{Base}
 use Rattle.po_bases.specs.declared.entry.Entry.{Entry}
 use Rattle.po_bases.specs.declared.bases.Bases.{Bases}

@@ -14,10 +14,10 @@ use Rattle.po_bases.specs.declared.heap_fact.HeapFact.{HeapFact}
 use Rattle.po_bases.specs.General.{IsJoin, IfThere, BelowFromNone, either_join, from_none, each, each_join, EachProper, Maybe, maybe, maybe_tells, pairs, along, renamed, reordered, rejoined, join_of_lesser, join_of_greater}
 use Rattle.po_bases.specs.Maps.{covered_tells}
 use Rattle.po_bases.specs.Filled.{IsFilled, FilledBelow, node_of, IsHeapEntry, HeapEntryBelow, IsHeap, HeapBelow, join_heap}
-use Rattle.po_bases.specs.FilledLaws.{filled_join, filled_tells, fact_tells, heaps_join}
+use Rattle.po_bases.proofs.FilledLaws.{filled_join, filled_tells, fact_tells, heaps_join}
 use Rattle.po_astate.specs.Each.{each_within}
 use Rattle.po_astate.specs.Values.{IsValue, ValueBelow, value_within, join_values}
-use Rattle.po_astate.specs.ValuesLaws.{values_join, value_tells}
+use Rattle.po_astate.proofs.ValuesLaws.{values_join, value_tells}
 use Rattle.po_astate.specs.States.{slot_within, join_slots, heap_entry_within, heap_within, IsState, StateBelow, below_state, join_state}
 use Rattle.po_astate.specs.declared.value.AValue.{AValue}
 use Rattle.po_astate.specs.declared.state.AState.{AState}

@@ -17,7 +17,7 @@ use Rattle.po_bases.specs.Intervals.{IsBetween, LowBelow, HighBelow, intervals}
 use Rattle.po_bases.specs.Maps.{covered_tells}
 use Rattle.po_bases.specs.Base.{base_cmp, base_total, base_same}
 use Rattle.po_bases.specs.Bases.{IsEntry, EntryBelow, IsBases, BasesBelow}
-use Rattle.po_bases.specs.BasesLaws.{bases_join}
+use Rattle.po_bases.proofs.BasesLaws.{bases_join}
 use Rattle.po_astate.specs.Values.{is_bounded, Rel, IsRel, RelBelow, rel_within, bounded_rel, join_rel, entry_within, bases_within, IsValue, ValueBelow, value_within, join_values}
 use Rattle.po_astate.specs.declared.value.AValue.{AValue}
 

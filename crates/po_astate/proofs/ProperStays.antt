@@ -25,9 +25,9 @@ use Rattle.po_bases.specs.Bases.{entry_cmp, join_entries, join_bases}
 use Rattle.po_bases.specs.Filled.{heap_cmp, join_heap_entries}
 use Rattle.po_astate.specs.Values.{is_bounded, Rel, bounded_rel, join_rel, join_values}
 use Rattle.po_astate.specs.States.{join_state}
-use Rattle.po_astate.specs.StatesLaws.{tested_join}
+use Rattle.po_astate.proofs.StatesLaws.{tested_join}
 use Rattle.po_astate.specs.Rounding.{round_rel, round_entry, round_bases, round_value, size_from, sizes, round_heap_entry, round_state}
-use Rattle.po_astate.specs.RoundingLaws.{all_changed, state_stays}
+use Rattle.po_astate.proofs.RoundingLaws.{all_changed, state_stays}
 use Rattle.po_astate.specs.Proper.{Shape, IsRoundedEnd, IsRounded, nothing_off, IsPlace, ArePlaces, IsRelOf, IsTyped, IsBlock, IsProperState, HasEndsOf, HasEnds}
 use Rattle.po_astate.specs.declared.value.AValue.{AValue}
 use Rattle.po_astate.specs.declared.state.AState.{AState}
