@@ -25,7 +25,7 @@ tokensExp = fold-Exp _ _ _ _ _ _ _ marks_exp marks_specifier marks_suffix marks_
 abbrev signsExp : Exp → List Sign
 signsExp = fold-Exp _ _ _ _ _ _ _ prints_exp prints_specifier prints_suffix prints_declarator prints_member prints_param prints_type
 
-abbrev orderExp : Exp → Ordered Exp
+abbrev pub orderExp : Exp → Ordered Exp
 orderExp = fold-Exp _ _ _ _ _ _ _ orders_exp orders_specifier orders_suffix orders_declarator orders_member orders_param orders_type
 
 abbrev AgreesExp : Exp → Type 0
@@ -37,7 +37,7 @@ tokensSpecifier = fold-Specifier _ _ _ _ _ _ _ marks_exp marks_specifier marks_s
 abbrev signsSpecifier : Specifier → List Sign
 signsSpecifier = fold-Specifier _ _ _ _ _ _ _ prints_exp prints_specifier prints_suffix prints_declarator prints_member prints_param prints_type
 
-abbrev orderSpecifier : Specifier → Ordered Specifier
+abbrev pub orderSpecifier : Specifier → Ordered Specifier
 orderSpecifier = fold-Specifier _ _ _ _ _ _ _ orders_exp orders_specifier orders_suffix orders_declarator orders_member orders_param orders_type
 
 abbrev AgreesSpecifier : Specifier → Type 0
@@ -49,7 +49,7 @@ tokensSuffix = fold-Suffix _ _ _ _ _ _ _ marks_exp marks_specifier marks_suffix 
 abbrev signsSuffix : Suffix → List Sign
 signsSuffix = fold-Suffix _ _ _ _ _ _ _ prints_exp prints_specifier prints_suffix prints_declarator prints_member prints_param prints_type
 
-abbrev orderSuffix : Suffix → Ordered Suffix
+abbrev pub orderSuffix : Suffix → Ordered Suffix
 orderSuffix = fold-Suffix _ _ _ _ _ _ _ orders_exp orders_specifier orders_suffix orders_declarator orders_member orders_param orders_type
 
 abbrev AgreesSuffix : Suffix → Type 0
@@ -61,7 +61,7 @@ tokensDeclarator = fold-Declarator _ _ _ _ _ _ _ marks_exp marks_specifier marks
 abbrev signsDeclarator : Declarator → List Sign
 signsDeclarator = fold-Declarator _ _ _ _ _ _ _ prints_exp prints_specifier prints_suffix prints_declarator prints_member prints_param prints_type
 
-abbrev orderDeclarator : Declarator → Ordered Declarator
+abbrev pub orderDeclarator : Declarator → Ordered Declarator
 orderDeclarator = fold-Declarator _ _ _ _ _ _ _ orders_exp orders_specifier orders_suffix orders_declarator orders_member orders_param orders_type
 
 abbrev AgreesDeclarator : Declarator → Type 0
@@ -73,7 +73,7 @@ tokensMember = fold-Member _ _ _ _ _ _ _ marks_exp marks_specifier marks_suffix 
 abbrev signsMember : Member → List Sign
 signsMember = fold-Member _ _ _ _ _ _ _ prints_exp prints_specifier prints_suffix prints_declarator prints_member prints_param prints_type
 
-abbrev orderMember : Member → Ordered Member
+abbrev pub orderMember : Member → Ordered Member
 orderMember = fold-Member _ _ _ _ _ _ _ orders_exp orders_specifier orders_suffix orders_declarator orders_member orders_param orders_type
 
 abbrev AgreesMember : Member → Type 0
@@ -85,7 +85,7 @@ tokensParam = fold-Param _ _ _ _ _ _ _ marks_exp marks_specifier marks_suffix ma
 abbrev signsParam : Param → List Sign
 signsParam = fold-Param _ _ _ _ _ _ _ prints_exp prints_specifier prints_suffix prints_declarator prints_member prints_param prints_type
 
-abbrev orderParam : Param → Ordered Param
+abbrev pub orderParam : Param → Ordered Param
 orderParam = fold-Param _ _ _ _ _ _ _ orders_exp orders_specifier orders_suffix orders_declarator orders_member orders_param orders_type
 
 abbrev AgreesParam : Param → Type 0
@@ -97,7 +97,7 @@ tokensTypeName = fold-TypeName _ _ _ _ _ _ _ marks_exp marks_specifier marks_suf
 abbrev signsTypeName : TypeName → List Sign
 signsTypeName = fold-TypeName _ _ _ _ _ _ _ prints_exp prints_specifier prints_suffix prints_declarator prints_member prints_param prints_type
 
-abbrev orderTypeName : TypeName → Ordered TypeName
+abbrev pub orderTypeName : TypeName → Ordered TypeName
 orderTypeName = fold-TypeName _ _ _ _ _ _ _ orders_exp orders_specifier orders_suffix orders_declarator orders_member orders_param orders_type
 
 abbrev AgreesTypeName : TypeName → Type 0

@@ -3,3 +3,5 @@ pub mod Expressions
 pub mod Statements
 pub mod Standing
 pub mod Naming
+mod HavingExpressions
+mod HavingDeclarations

@@ -4,8 +4,10 @@ ghost use Rattle.po_tree.specs.declared.expression.Declarator.{Declarator};
 ghost use Rattle.po_tree.specs.declared.expression.Exp.{Exp as Expression};
 ghost use Rattle.po_tree.specs.declared.function.FunTree.{FunTree as Definition};
 ghost use Rattle.po_tree.specs.declared.statement.Stmt.{Stmt as Statement};
+ghost use Rattle.po_tree.specs.Declarations.{IsPiece};
 ghost use Rattle.po_tree.specs.Order.{decl_expressions, expressions, fun_expressions, stmt_expressions};
 ghost use Rattle.po_tree.specs.Printing.{flat, flat_decl, flat_fun, flat_stmt, prints_star};
+ghost use Rattle.po_tree.specs.Statements.{IsFunction};
 ghost use Rattle.po_heads.specs.Heads.{Ascends, HasHeads, fun_stops, head_places, head_sign, head_signs, heads, signs, stmt_stops, stops};
 ghost use Rattle.po_heads.specs.Marks.{declared, marked, marked_decl, marked_declarator, marked_fun, marked_stmt};
 
@@ -24,6 +26,12 @@ pub fn heads_are_counted()
     ensures declarations { (d : Declaration) → heads (marked_decl d) ≡ head_signs (decl_expressions d) }
     ensures statements { (x : Statement) → heads (marked_stmt x) ≡ head_signs (stmt_expressions x) }
     ensures definitions { (g : Definition) → heads (marked_fun g) ≡ head_signs (fun_expressions g) }
+{}
+
+/// Each expression of a well-formed declaration, and of a well-formed definition, has a head: none is a row of no strings.
+pub fn expressions_have_heads()
+    ensures declarations { (types behind : Items (Items ℕ)) (d : Declaration) → IsPiece types d behind → HasHeads (decl_expressions d) }
+    ensures definitions { (types : Items (Items ℕ)) (g : Definition) → IsFunction types g → HasHeads (fun_expressions g) }
 {}
 
 /// The k-th expression of a definition has the k-th place of a head, and there stands the head that its form has. The places ascend, and lie in

@@ -5,5 +5,6 @@
 mod laws;
 
 pub use laws::{
-    heads_are_counted, heads_stand, keywords_are_counted, tokens_are_printed, words_stand,
+    expressions_have_heads, heads_are_counted, heads_stand, keywords_are_counted,
+    tokens_are_printed, words_stand,
 };
