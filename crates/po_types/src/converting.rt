@@ -5,7 +5,7 @@ use crate::ctype::CType;
 use po_base::Memory;
 
 /// A type, or the pointer to the first element where it is an array (C99 6.3.2.1p3), in constant time.
-#[tactic(auto, using(crate::specs::TypesLaws::out_Void, crate::specs::TypesLaws::out_Int, crate::specs::TypesLaws::out_Ptr, crate::specs::TypesLaws::out_Array, crate::specs::TypesLaws::out_Struct, crate::specs::TypesLaws::out_Fun))]
+#[tactic(auto, using(crate::proofs::TypesLaws::out_Void, crate::proofs::TypesLaws::out_Int, crate::proofs::TypesLaws::out_Ptr, crate::proofs::TypesLaws::out_Array, crate::proofs::TypesLaws::out_Struct, crate::proofs::TypesLaws::out_Fun))]
 pub fn decayed(t: &CType) -> Result<CType, Memory>
     ensures { IfOk result (λ u. u ≡ types.decayed t.now) }
 {
@@ -20,7 +20,7 @@ pub fn decayed(t: &CType) -> Result<CType, Memory>
 }
 
 /// What two declarations that agree together say of a type: its size, where one of them has it (C99 6.2.7p3), in constant time.
-#[tactic(auto, using(crate::specs::TypesLaws::out_Void, crate::specs::TypesLaws::out_Int, crate::specs::TypesLaws::out_Ptr, crate::specs::TypesLaws::out_Array, crate::specs::TypesLaws::out_Struct, crate::specs::TypesLaws::out_Fun))]
+#[tactic(auto, using(crate::proofs::TypesLaws::out_Void, crate::proofs::TypesLaws::out_Int, crate::proofs::TypesLaws::out_Ptr, crate::proofs::TypesLaws::out_Array, crate::proofs::TypesLaws::out_Struct, crate::proofs::TypesLaws::out_Fun))]
 pub fn composite(t: &CType, u: &CType) -> Result<CType, Memory>
     ensures { IfOk result (λ v. v ≡ types.composite t.now u.now) }
 {

@@ -7,7 +7,7 @@ use crate::ctype::CType;
 use po_arith::IntType;
 
 /// Whether a type is void.
-#[tactic(auto, using(crate::specs::TypesLaws::out_Void, crate::specs::TypesLaws::out_Int, crate::specs::TypesLaws::out_Ptr, crate::specs::TypesLaws::out_Array, crate::specs::TypesLaws::out_Struct, crate::specs::TypesLaws::out_Fun))]
+#[tactic(auto, using(crate::proofs::TypesLaws::out_Void, crate::proofs::TypesLaws::out_Int, crate::proofs::TypesLaws::out_Ptr, crate::proofs::TypesLaws::out_Array, crate::proofs::TypesLaws::out_Struct, crate::proofs::TypesLaws::out_Fun))]
 pub fn is_void(t: &CType) -> bool
     ensures { IsTrue result ↔ (t.now ≡ c.Void) }
 {
@@ -22,7 +22,7 @@ pub fn is_void(t: &CType) -> bool
 }
 
 /// The integer type, where a type is one.
-#[tactic(auto, using(crate::specs::TypesLaws::out_Void, crate::specs::TypesLaws::out_Int, crate::specs::TypesLaws::out_Ptr, crate::specs::TypesLaws::out_Array, crate::specs::TypesLaws::out_Struct, crate::specs::TypesLaws::out_Fun))]
+#[tactic(auto, using(crate::proofs::TypesLaws::out_Void, crate::proofs::TypesLaws::out_Int, crate::proofs::TypesLaws::out_Ptr, crate::proofs::TypesLaws::out_Array, crate::proofs::TypesLaws::out_Struct, crate::proofs::TypesLaws::out_Fun))]
 pub fn integer(t: &CType) -> Option<IntType>
     ensures { result ≡ types.integer t.now }
 {
@@ -37,7 +37,7 @@ pub fn integer(t: &CType) -> Option<IntType>
 }
 
 /// What a pointer points to, where a type is one.
-#[tactic(auto, using(crate::specs::TypesLaws::out_Void, crate::specs::TypesLaws::out_Int, crate::specs::TypesLaws::out_Ptr, crate::specs::TypesLaws::out_Array, crate::specs::TypesLaws::out_Struct, crate::specs::TypesLaws::out_Fun))]
+#[tactic(auto, using(crate::proofs::TypesLaws::out_Void, crate::proofs::TypesLaws::out_Int, crate::proofs::TypesLaws::out_Ptr, crate::proofs::TypesLaws::out_Array, crate::proofs::TypesLaws::out_Struct, crate::proofs::TypesLaws::out_Fun))]
 pub fn pointee(t: &CType) -> Option<&CType>
     ensures { option_copied result ≡ types.pointee t.now }
 {
@@ -52,7 +52,7 @@ pub fn pointee(t: &CType) -> Option<&CType>
 }
 
 /// The type of an array's elements and their count where it is known, where a type is one.
-#[tactic(auto, using(crate::specs::TypesLaws::out_Void, crate::specs::TypesLaws::out_Int, crate::specs::TypesLaws::out_Ptr, crate::specs::TypesLaws::out_Array, crate::specs::TypesLaws::out_Struct, crate::specs::TypesLaws::out_Fun))]
+#[tactic(auto, using(crate::proofs::TypesLaws::out_Void, crate::proofs::TypesLaws::out_Int, crate::proofs::TypesLaws::out_Ptr, crate::proofs::TypesLaws::out_Array, crate::proofs::TypesLaws::out_Struct, crate::proofs::TypesLaws::out_Fun))]
 pub fn elements(t: &CType) -> Option<(&CType, Option<u64>)>
     ensures { option_map (λ p. (p.0.now, p.1)) result ≡ types.elements t.now }
 {
@@ -67,7 +67,7 @@ pub fn elements(t: &CType) -> Option<(&CType, Option<u64>)>
 }
 
 /// The number of a struct, where a type is one.
-#[tactic(auto, using(crate::specs::TypesLaws::out_Void, crate::specs::TypesLaws::out_Int, crate::specs::TypesLaws::out_Ptr, crate::specs::TypesLaws::out_Array, crate::specs::TypesLaws::out_Struct, crate::specs::TypesLaws::out_Fun))]
+#[tactic(auto, using(crate::proofs::TypesLaws::out_Void, crate::proofs::TypesLaws::out_Int, crate::proofs::TypesLaws::out_Ptr, crate::proofs::TypesLaws::out_Array, crate::proofs::TypesLaws::out_Struct, crate::proofs::TypesLaws::out_Fun))]
 pub fn structure(t: &CType) -> Option<u32>
     ensures { result ≡ types.structure t.now }
 {
@@ -82,7 +82,7 @@ pub fn structure(t: &CType) -> Option<u32>
 }
 
 /// The result of a function, its parameters and whether it takes further arguments, where a type is one.
-#[tactic(auto, using(crate::specs::TypesLaws::out_Void, crate::specs::TypesLaws::out_Int, crate::specs::TypesLaws::out_Ptr, crate::specs::TypesLaws::out_Array, crate::specs::TypesLaws::out_Struct, crate::specs::TypesLaws::out_Fun))]
+#[tactic(auto, using(crate::proofs::TypesLaws::out_Void, crate::proofs::TypesLaws::out_Int, crate::proofs::TypesLaws::out_Ptr, crate::proofs::TypesLaws::out_Array, crate::proofs::TypesLaws::out_Struct, crate::proofs::TypesLaws::out_Fun))]
 pub fn signature(t: &CType) -> Option<(&CType, &[CType], bool)>
     ensures { option_map (λ p. (p.0.now, (p.1.now, p.2))) result ≡ types.signature t.now }
 {

@@ -19,7 +19,7 @@ pub fn layout_of(structs: &[Option<Layout>], n: u32) -> Option<&Layout>
 
 /// The size of an object of the type: None where the type isn't complete, has no bytes, or more than an object may have.
 /// Takes time in the number of its arrays.
-#[tactic(auto, using(crate::specs::TypesLaws::bytes_Array, crate::specs::TypesLaws::bytes_Void, crate::specs::TypesLaws::bytes_Int, crate::specs::TypesLaws::bytes_Ptr, crate::specs::TypesLaws::bytes_Struct, crate::specs::TypesLaws::bytes_Fun))]
+#[tactic(auto, using(crate::proofs::TypesLaws::bytes_Array, crate::proofs::TypesLaws::bytes_Void, crate::proofs::TypesLaws::bytes_Int, crate::proofs::TypesLaws::bytes_Ptr, crate::proofs::TypesLaws::bytes_Struct, crate::proofs::TypesLaws::bytes_Fun))]
 pub fn size_of(target: Target, structs: &[Option<Layout>], t: &CType) -> Option<u64>
     ensures { result ≡ types.size_of target structs.now t.now }
 {
@@ -73,7 +73,7 @@ pub fn as_object(target: Target, bytes: u64) -> Option<u64>
 }
 
 /// The alignment of a type, where void and an incomplete struct count as 1. Takes time in the number of its arrays.
-#[tactic(auto, using(crate::specs::TypesLaws::align_Array, crate::specs::TypesLaws::align_Void, crate::specs::TypesLaws::align_Int, crate::specs::TypesLaws::align_Ptr, crate::specs::TypesLaws::align_Struct, crate::specs::TypesLaws::align_Fun))]
+#[tactic(auto, using(crate::proofs::TypesLaws::align_Array, crate::proofs::TypesLaws::align_Void, crate::proofs::TypesLaws::align_Int, crate::proofs::TypesLaws::align_Ptr, crate::proofs::TypesLaws::align_Struct, crate::proofs::TypesLaws::align_Fun))]
 pub fn align_of(target: Target, structs: &[Option<Layout>], t: &CType) -> u64
     ensures { result ≡ types.align_of target structs.now t.now }
 {
