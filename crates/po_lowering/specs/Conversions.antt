@@ -14,8 +14,9 @@ use Rattle.po_ir.specs.declared.graph.Node.{Node}
 use Rattle.po_types.specs.declared.ctype.CType.{CType, out-CType}
 use Rattle.po_types.specs.declared.ctype.CType.TheOpen.{CType-F}
 use Rattle.po_lowering.specs.Typed.{Typed}
-use Rattle.po_lowering.specs.Types.{register_type, promoted, is_kept, fits, is_address, is_struct, pointee, access_of}
+use Rattle.po_lowering.specs.Types.{register_type, is_kept, fits, is_address, is_struct, referenced, access_of}
 use Rattle.po_lowering.specs.Temporaries.{State, At, Takes, reg, register}
+use Rattle.po_types.specs.Integers.{promoted}
 
 -- what a conversion does: nothing, a comparison with 0, or a Conv at an alignment
 pub data Change : Type 0 where
@@ -35,7 +36,7 @@ to_integer s t v = cond (is_kept s t || number_fits t v) nothing (cond (t.bits =
 abbrev pub to_bool : IntType → Opnd → Change
 to_bool t v = cond (number_fits t v) nothing (comparison Ptr)
 
--- a Conv where the target's pointee has the greater alignment (6.3.2.3p7)
+-- a Conv where the target's referenced has the greater alignment (6.3.2.3p7)
 abbrev pub to_pointer : Typed → CType → CType → Change
 to_pointer f s t = cond (nat_lt (f.align s) (f.align t)) (conversion Ptr (f.align t)) nothing
 
@@ -71,7 +72,7 @@ tested t = tested_in (out-CType t)
 
 -- the element size of a pointer
 abbrev pub step_size : Typed → CType → ℤ
-step_size f t = pos (f.size (pointee t))
+step_size f t = pos (f.size (referenced t))
 
 -- operands of these types, the first two Bools, are addresses: `p+i` and `i+p` are a PtrAdd, `p-i` one with a negative factor, `p-q` a PtrDiff
 abbrev pub adds : Typed → Bool → Bool → CType → CType → Opnd → Opnd → ℕ → Instr
@@ -80,7 +81,7 @@ adds f false true t u v w r = ins.PtrAdd (reg r) w v (step_size f u)
 adds f false false t u v w r = ins.Bin (reg r) op.Add (register_type t) v w
 
 abbrev pub subtracts : Typed → Bool → Bool → CType → CType → Opnd → Opnd → ℕ → Instr
-subtracts f true true t u v w r = ins.PtrDiff (reg r) v w (f.size (pointee t))
+subtracts f true true t u v w r = ins.PtrDiff (reg r) v w (f.size (referenced t))
 subtracts f true false t u v w r = ins.PtrAdd (reg r) v w (neg_ℤ (step_size f t))
 subtracts f false second t u v w r = ins.Bin (reg r) op.Sub (register_type t) v w
 

@@ -22,12 +22,13 @@ use Rattle.po_types.specs.declared.ctype.CType.{CType}
 use Rattle.po_lowering.specs.declared.var.Var.TheVariants as var
 use Rattle.po_lowering.specs.Places.{Place, skip, next, behind, head_of, head_in, operand_of_cast}
 use Rattle.po_lowering.specs.Typed.{Typed, type_at, type_of, conversion_of, spot_at}
-use Rattle.po_lowering.specs.Types.{register_type, is_scalar, is_void, integer_of, pointee, access_of}
+use Rattle.po_lowering.specs.Types.{register_type, is_scalar, is_void, referenced, access_of}
 use Rattle.po_lowering.specs.Temporaries.{State, At, Takes, Holds, Saves, saved_or, Row, node, to, reg, register, put}
 use Rattle.po_lowering.specs.Conversions.{Converts, tested, combines, steps, store}
 use Rattle.po_lowering.specs.Naming.{Scope, variable, enumerator, named, changes, register_of}
 use Rattle.po_lowering.specs.Spelling.{Spells}
 use Rattle.po_lowering.specs.Forms.{Layer, IsObject, IsSameUnused, IsPlain, offset_of}
+use Rattle.po_types.specs.Types.{integer}
 
 -- what is read of an object at an address: a scalar by a Load; the value of anything else is its address
 pub data Reads (f : Typed) (ns : List Node) : State → ℕ → Spot → CType → Opnd → Opnd → ℕ → State → Type 0 where
@@ -78,9 +79,9 @@ mutual
         At ns i (ins.Call None (Extern name) vs (f.strings (behind x p).number)) (spot_at f (behind x p)) → Value f c ns s a (Exp-F.Call x xs) p nothing (i + 1) t
     -- `+` has no node, `-` and `~` have a Un, and `!` has a comparison with 0
     plus : {s t : State} {a b : ℕ} {p : Place} {x : Exp} {v : Opnd} → Operand f c ns s a x (next p) v b t → Value f c ns s a (Exp-F.Plus x) p v b t
-    minus : {s s1 t : State} {a i r : ℕ} {p : Place} {x : Exp} {v : Opnd} {ty : IntType} → Operand f c ns s a x (next p) v i s1 → integer_of (type_at f p) ≡ Some ty →
+    minus : {s s1 t : State} {a i r : ℕ} {p : Place} {x : Exp} {v : Opnd} {ty : IntType} → Operand f c ns s a x (next p) v i s1 → integer (type_at f p) ≡ Some ty →
         Takes (register_type (type_at f p)) s1 r t → At ns i (ins.Un (reg r) un.Neg ty v) (spot_at f p) → Value f c ns s a (Exp-F.Minus x) p (register r) (i + 1) t
-    complement : {s s1 t : State} {a i r : ℕ} {p : Place} {x : Exp} {v : Opnd} {ty : IntType} → Operand f c ns s a x (next p) v i s1 → integer_of (type_at f p) ≡ Some ty →
+    complement : {s s1 t : State} {a i r : ℕ} {p : Place} {x : Exp} {v : Opnd} {ty : IntType} → Operand f c ns s a x (next p) v i s1 → integer (type_at f p) ≡ Some ty →
         Takes (register_type (type_at f p)) s1 r t → At ns i (ins.Un (reg r) un.Not ty v) (spot_at f p) → Value f c ns s a (Exp-F.Compl x) p (register r) (i + 1) t
     not_value : {s s1 t : State} {a i r : ℕ} {p : Place} {x : Exp} {v : Opnd} → Value f c ns s a (out-Exp x) (next p) v i s1 → Takes (register_type (type_at f p)) s1 r t →
         At ns i (ins.Bin (reg r) op.Eq (tested (type_of f x (next p))) v (o.Num (pos 0))) (spot_at f p) → Value f c ns s a (Exp-F.Not x) p (register r) (i + 1) t
@@ -181,7 +182,7 @@ mutual
     member_address : {s s1 t : State} {a i b : ℕ} {p : Place} {x : Exp} {name : List ℕ} {v w : Opnd} → Value f c ns s a (out-Exp x) p v i s1 →
         Moves ns s1 i (spot_at f (behind x p)) (offset_of f (type_of f x p) name) v w b t → Address f c ns s a (Exp-F.Dot x name) p w b t
     pointed_member_address : {s s1 t : State} {a i b : ℕ} {p : Place} {x : Exp} {name : List ℕ} {v w : Opnd} → Operand f c ns s a x p v i s1 →
-        Moves ns s1 i (spot_at f (behind x p)) (offset_of f (pointee (conversion_of f x p)) name) v w b t → Address f c ns s a (Exp-F.Arrow x name) p w b t
+        Moves ns s1 i (spot_at f (behind x p)) (offset_of f (referenced (conversion_of f x p)) name) v w b t → Address f c ns s a (Exp-F.Arrow x name) p w b t
 
   -- Steps f c ns s a x p h operator old v b t: x, at the place p, is moved by 1 by an operator whose token stands at h; old says that the value is the old one
   pub data Steps (f : Typed) (c : Scope) (ns : List Node) : State → ℕ → Exp → Place → Place → Op → Bool → Opnd → ℕ → State → Type 0 where

@@ -11,7 +11,7 @@ use Rattle.po_tree.specs.declared.expression.Param.{Param}
 use Rattle.po_tree.specs.declared.expression.TypeName.{TypeName}
 use Rattle.po_types.specs.declared.ctype.CType.{CType}
 use Rattle.po_lowering.specs.Typed.{Typed, Part}
-use Rattle.po_lowering.specs.Types.{struct_of}
+use Rattle.po_types.specs.Types.{structure}
 use Rattle.po_lowering.specs.Naming.{is_same}
 
 abbrev pub Layer : Type 0
@@ -58,4 +58,4 @@ offset_in f (Some n) name = offset_among name (f.parts n)
 
 -- the offset of a struct's member
 abbrev pub offset_of : Typed → CType → List ℕ → ℕ
-offset_of f t name = offset_in f (struct_of t) name
+offset_of f t name = offset_in f (structure t) name

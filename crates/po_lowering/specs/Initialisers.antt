@@ -20,7 +20,7 @@ use Rattle.po_lowering.specs.declared.var.Var.{Var}
 use Rattle.po_lowering.specs.declared.var.Var.TheVariants as var
 use Rattle.po_lowering.specs.Places.{Place, skip, behind_init}
 use Rattle.po_lowering.specs.Typed.{Typed, Part}
-use Rattle.po_lowering.specs.Types.{int}
+use Rattle.po_types.specs.Integers.{int_type}
 use Rattle.po_lowering.specs.Temporaries.{State, At, Takes, reg, register, put}
 use Rattle.po_lowering.specs.Conversions.{Converts, store}
 use Rattle.po_lowering.specs.Naming.{Scope}
@@ -102,11 +102,11 @@ pub data Reaches (ns : List Node) : State → ℕ → Spot → SlotNo → List S
   reached : {s s1 t : State} {a b r : ℕ} {spot : Spot} {k : SlotNo} {way : List Step} {v : Opnd} → Takes ty.Ptr s r s1 →
       At ns a (ins.AddrSlot (reg r) k) spot → Goes ns s1 (a + 1) spot way (register r) v b t → Reaches ns s a spot k way v b t
 
--- the characters of a text, each an int that is converted to the element's type, from the n-th element on
+-- the characters of a text, each an int_type that is converted to the element's type, from the n-th element on
 pub data Letters (f : Typed) (ns : List Node) : State → ℕ → Spot → SlotNo → List Step → CType → ℕ → List ℤ → ℕ → State → Type 0 where
   no_more_letters : {s : State} {a n : ℕ} {spot : Spot} {k : SlotNo} {way : List Step} {t : CType} → Letters f ns s a spot k way t n [] a s
   one_more_letter : {s s1 s2 u : State} {a i j b n : ℕ} {spot : Spot} {k : SlotNo} {way : List Step} {t : CType} {z : ℤ} {rest : List ℤ} {v w : Opnd} →
-      Reaches ns s a spot k (way ++ element n (f.size t) ∷ []) v i s1 → Converts f ns s1 i spot (c.Int int) t (o.Num z) w j s2 →
+      Reaches ns s a spot k (way ++ element n (f.size t) ∷ []) v i s1 → Converts f ns s1 i spot (c.Int int_type) t (o.Num z) w j s2 →
       At ns j (store f t v w) spot → Letters f ns s2 (j + 1) spot k way t (n + 1) rest b u → Letters f ns s a spot k way t n (z ∷ rest) b u
 
 -- Gives f sc ns s a spot k way t g p b u: the nodes from a to b give the part of the slot k, which has type t, what the initialiser at the place

@@ -16,7 +16,7 @@ use Rattle.po_tree.specs.declared.statement.Stmt.TheOpen.{Stmt-F}
 use Rattle.po_lowering.specs.declared.var.Var.{Var}
 use Rattle.po_lowering.specs.Places.{Place, skip, behind, behind_specs, behind_declarator, behind_part, behind_stmt, behind_all, behind_optional, behind_first, word_of, head_of}
 use Rattle.po_lowering.specs.Typed.{Typed, Declared, type_of, conversion_of, spot_at}
-use Rattle.po_lowering.specs.Types.{integer_of}
+use Rattle.po_types.specs.Types.{integer}
 use Rattle.po_lowering.specs.Temporaries.{State, At, Row, fresh, to}
 use Rattle.po_lowering.specs.Conversions.{tested}
 use Rattle.po_lowering.specs.Naming.{Scope}
@@ -153,7 +153,7 @@ mutual
         Runs f ns (switching b l) sc (no_cases s1) (i + 1) (out-Stmt y) (skip 1 (behind x (skip 2 p))) b t → Runs f ns l sc s a (Stmt-F.Switch x y) p b (cases_of s t)
     -- a case's constant is converted to the promoted type of the switch's expression (6.8.4.2p5), which is an integer type
     case : {l : Around} {sc : Scope} {s t : State} {a b : ℕ} {x : Exp} {y : Stmt} {m : ℤ} (n : ℤ) {ty : IntType} {p : Place} →
-        f.constants (head_of x (skip 1 p)).number ≡ Some m → integer_of (conversion_of f x (skip 1 p)) ≡ Some ty → IsIntType ty → IsWrapped ty m n →
+        f.constants (head_of x (skip 1 p)).number ≡ Some m → integer (conversion_of f x (skip 1 p)) ≡ Some ty → IsIntType ty → IsWrapped ty m n →
         Runs f ns l sc (with_case n a s) a (out-Stmt y) (skip 1 (behind x (skip 1 p))) b t → Runs f ns l sc s a (Stmt-F.Case x y) p b t
     default : {l : Around} {sc : Scope} {s t : State} {a b : ℕ} {y : Stmt} {p : Place} → Runs f ns l sc (with_default a s) a (out-Stmt y) (skip 2 p) b t →
         Runs f ns l sc s a (Stmt-F.Default y) p b t

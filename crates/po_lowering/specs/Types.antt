@@ -1,5 +1,5 @@
--- What the graph depends on in a type: how its values are held, and what its promotion is (C99 6.2.5, 6.3.1.1).
-use Rattle.std.specs.Prelude.{ℕ, nat_lt, nat_le, ℤ, int_le, Bool, true, false, cond, ◌&&◌, Option, Some, None}
+-- What the graph depends on in a type: how its values are held (C99 6.2.5).
+use Rattle.std.specs.Prelude.{ℕ, nat_lt, nat_le, ℤ, int_le, Bool, true, false, ◌&&◌}
 use Rattle.po_arith.specs.declared.int_type.IntType.{IntType}
 use Rattle.po_arith.specs.Types.{least, greatest}
 use Rattle.po_ir.specs.declared.instr.Ty.{Ty}
@@ -50,34 +50,13 @@ abbrev pub is_address : CType → Bool
 is_address t = is_address_in (out-CType t)
 
 -- what a pointer points to, or an array consists of
-abbrev pub pointee_in : CType-F CType → CType
-pointee_in (CType-F.Ptr t) = t
-pointee_in (CType-F.Array t n) = t
-pointee_in _ = c.Void
+abbrev pub referenced_in : CType-F CType → CType
+referenced_in (CType-F.Ptr t) = t
+referenced_in (CType-F.Array t n) = t
+referenced_in _ = c.Void
 
-abbrev pub pointee : CType → CType
-pointee t = pointee_in (out-CType t)
-
-abbrev pub struct_in : CType-F CType → Option ℕ
-struct_in (CType-F.Struct n) = Some n
-struct_in _ = None
-
-abbrev pub struct_of : CType → Option ℕ
-struct_of t = struct_in (out-CType t)
-
-abbrev pub integer_in : CType-F CType → Option IntType
-integer_in (CType-F.Int t) = Some t
-integer_in _ = None
-
-abbrev pub integer_of : CType → Option IntType
-integer_of t = integer_in (out-CType t)
-
-abbrev pub int : IntType
-int = record { bits = 32; signed = true }
-
--- integers narrower than int become int (6.3.1.1p2)
-abbrev pub promoted : IntType → IntType
-promoted t = cond (nat_lt t.bits 32) int t
+abbrev pub referenced : CType → CType
+referenced t = referenced_in (out-CType t)
 
 abbrev pub is_kept_of : Bool → Bool → ℕ → ℕ → Bool
 is_kept_of false false m n = nat_le m n
