@@ -36,7 +36,7 @@ to_integer s t v = cond (is_kept s t || number_fits t v) nothing (cond (t.bits =
 abbrev pub to_bool : IntType → Opnd → Change
 to_bool t v = cond (number_fits t v) nothing (comparison Ptr)
 
--- a Conv where the target's referenced has the greater alignment (6.3.2.3p7)
+-- a Conv where what the target points to has the greater alignment (6.3.2.3p7)
 abbrev pub to_pointer : Typed → CType → CType → Change
 to_pointer f s t = cond (nat_lt (f.align s) (f.align t)) (conversion Ptr (f.align t)) nothing
 
