@@ -1,7 +1,3 @@
-pub mod Leading
-pub mod Standing
-pub mod Ends
-pub mod Classes
 pub mod Naming
 pub mod Endings
 pub mod Starred

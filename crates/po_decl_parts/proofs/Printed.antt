@@ -10,10 +10,9 @@ use Rattle.po_tree.specs.Heights.{height, or_none}
 use Rattle.po_tree.specs.Printing.{flat, prints_star, with_commas, after_commas}
 use Rattle.po_tree.specs.Expressions.{IsExpression, Formed, SizesFormed, no_more_sizes, no_size as formed_no_size, one_size as formed_one_size}
 use Rattle.po_tree.specs.Declarations.{without, Enumerators, no_more_items, item as plain_item, valued_item}
-use Rattle.po_exp_read.specs.Longest.{at_comma as comma_ends, at_brace as brace_ends}
-use Rattle.po_exp_read.specs.TypeWords.{Begins}
-use Rattle.po_exp_read.specs.Places.{sizes_height}
-use Rattle.po_decl_parts.specs.Stars.{BeginsQualifier, QualifiersRead, no_qualifier, one_qualifier, StarsRead, no_star, one_star}
+use Rattle.po_exp_parts.specs.Places.{at_comma as comma_ends, at_brace as brace_ends, Begins, BeginsQualifier}
+use Rattle.po_exp_read.specs.Enclosed.{sizes_height}
+use Rattle.po_decl_parts.specs.Stars.{QualifiersRead, no_qualifier, one_qualifier, StarsRead, no_star, one_star}
 use Rattle.po_decl_parts.specs.Printed.{NoQualifierBehind, StarsPrinted, flat_sizes, SizesPrinted, EnumeratorsPrinted}
 use Rattle.po_decl_parts.specs.Sizes.{SizesRead, sizes_end, no_size, one_size}
 use Rattle.po_decl_parts.specs.Enumerators.{EnumeratorRead, plain, valued, EnumeratorsRead, last, last_comma, further, flat_enumerator, flat_enumerators, enumerators_height}

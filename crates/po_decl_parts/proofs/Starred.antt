@@ -3,10 +3,10 @@ use Rattle.std.proofs.Common.{◌≡◌, ◌∙◌, ℕ, List, [], ◌∷◌, �
 use Rattle.std.specs.Prelude.{Contains}
 use Rattle.po_tree.specs.Signs.{Sign, word, star}
 use Rattle.po_tree.specs.Words.{qualifiers}
-use Rattle.po_exp_read.specs.TypeWords.{Begins, BeginsWord}
-use Rattle.po_decl_parts.specs.Stars.{BeginsQualifier, QualifiersRead, no_qualifier, one_qualifier, StarsRead, no_star, one_star}
-use Rattle.po_decl_parts.proofs.Standing.{same_word}
-use Rattle.po_decl_parts.proofs.Leading.{Leads}
+use Rattle.po_exp_parts.specs.Places.{Begins, BeginsWord, BeginsQualifier}
+use Rattle.po_decl_parts.specs.Stars.{QualifiersRead, no_qualifier, one_qualifier, StarsRead, no_star, one_star}
+use Rattle.po_exp_parts.proofs.SameSigns.{same_word}
+use Rattle.po_exp_parts.proofs.Leading.{Leads}
 
 pub qualifier_begins : {text : List ℕ} {ts us : List Sign} → ts ≡ word text ∷ us → Contains qualifiers text → BeginsQualifier ts
 qualifier_begins q h = subst BeginsQualifier (sym q) (refl, h)

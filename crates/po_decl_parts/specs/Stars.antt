@@ -1,14 +1,8 @@
 -- Stars, each with the qualifiers behind it (C99 6.7.5.1).
-use Rattle.std.specs.Prelude.{ℕ, ◌≡◌, List, [], ◌∷◌, Contains}
-use Rattle.po_base.specs.declared.token.TokenKind.TheVariants as k
+use Rattle.std.specs.Prelude.{ℕ, List, [], ◌∷◌, Contains}
 use Rattle.po_tree.specs.Signs.{Sign, word, star}
 use Rattle.po_tree.specs.Words.{qualifiers}
-use Rattle.po_exp_read.specs.TypeWords.{Begins}
-
--- the signs begin with a qualifier
-abbrev pub BeginsQualifier : List Sign → Type 0
-BeginsQualifier [] = ⊥
-BeginsQualifier (t ∷ ts) = (t.kind ≡ k.Word) × Contains qualifiers t.text
+use Rattle.po_exp_parts.specs.Places.{Begins, BeginsQualifier}
 
 -- QualifiersRead ts words us: these are all qualifiers at the front of ts, and us are left
 pub data QualifiersRead : List Sign → List (List ℕ) → List Sign → Type 0 where

@@ -1,12 +1,12 @@
 ghost use Rattle.std.specs.Prelude.{◌≡◌, ◌≤◌, ◌<◌, ◌+◌, ◌∷◌, length, Contains, IfOk, MatchOption, OnSome};
 ghost use Rattle.po_tree.specs.Signs.{word};
 ghost use Rattle.po_tree.specs.Words.{qualifiers};
-ghost use Rattle.po_exp_read.specs.Longest.{signs_between};
-ghost use Rattle.po_decl_parts.specs.Stars.{BeginsQualifier, QualifiersRead, StarsRead};
+ghost use Rattle.po_exp_parts.specs.Places.{signs_between, BeginsQualifier};
+ghost use Rattle.po_decl_parts.specs.Stars.{QualifiersRead, StarsRead};
 
-use crate::places::{stands, word_at};
-use crate::words::is_qualifier;
 use po_base::{List, Memory, Text, Tokens};
+use po_exp_parts::ranges::{stands, word_at};
+use po_exp_parts::words::is_qualifier;
 use std::alloc::Global;
 
 /// The qualifier at a place before `to`, where one stands there.

@@ -9,7 +9,8 @@ use Rattle.po_tree.specs.Words.{qualifiers}
 use Rattle.po_tree.specs.Printing.{flat_specifier, prints_star}
 use Rattle.po_tree.specs.Layers.{flat_specifier-Word, flat_specifier-Named, flat_specifier-struct, flat_specifier-enum}
 use Rattle.po_tree.specs.Expressions.{Typed, untyped, TypeSpecs, no_more_specs, qualifier, type_word, typedef_name, struct_tag, enum_tag}
-use Rattle.po_exp_read.specs.TypeWords.{Begins, BeginsWord, SpecsRead, specs_end, qualifier as reads_qualifier, type_word as reads_type_word, typedef_name as reads_typedef_name, struct_tag as reads_struct_tag, enum_tag as reads_enum_tag, WordsRead, words_end, one_word, StarsRead, stars_end, one_star}
+use Rattle.po_exp_parts.specs.Places.{Begins, BeginsWord}
+use Rattle.po_exp_parts.specs.TypeWords.{SpecsRead, specs_end, qualifier as reads_qualifier, type_word as reads_type_word, typedef_name as reads_typedef_name, struct_tag as reads_struct_tag, enum_tag as reads_enum_tag, WordsRead, words_end, one_word, TypeStarsRead, stars_end, one_star}
 
 -- a specifier that is printed before others
 one_before : {front ts : List Sign} (us : List Sign) (spec : Specifier) (specs : List Specifier) → flat_specifier spec ≡ front →
@@ -45,7 +46,7 @@ words_sound (one_word text rest ts us is read) =
     (All-cons (Contains qualifiers) text rest is p.0, ap (λ v. word text ∷ v) p.1)
 
 -- stars that are read have qualifiers behind them, and are printed as what was read
-pub stars_sound : {ts us : List Sign} {stars : List (List (List ℕ))} → StarsRead ts stars us →
+pub stars_sound : {ts us : List Sign} {stars : List (List (List ℕ))} → TypeStarsRead ts stars us →
     All (All (Contains qualifiers)) stars × (ts ≡ flat_map prints_star stars ++ us)
 stars_sound (stars_end ts ends) = (All-nil (All (Contains qualifiers)), refl)
 stars_sound (one_star words stars ts us vs read rest) =
@@ -88,11 +89,11 @@ stars_begin (words ∷ stars) rest ends q = cc
 
 -- stars are read where they are printed, and neither a word nor a star follows them
 pub stars_complete : (stars : List (List (List ℕ))) (rest : List Sign) → All (All (Contains qualifiers)) stars → (BeginsWord rest → ⊥) → (Begins star rest → ⊥) →
-    StarsRead (flat_map prints_star stars ++ rest) stars rest
+    TypeStarsRead (flat_map prints_star stars ++ rest) stars rest
 stars_complete [] rest all ends last = stars_end rest last
 stars_complete (words ∷ stars) rest all ends last =
     let us : List Sign = flat_map prints_star stars ++ rest in
     let these = All-head (All (Contains qualifiers)) words stars all in
     let those = All-tail (All (Contains qualifiers)) words stars all in
-    subst (λ v. StarsRead (star ∷ v) (words ∷ stars) rest) (sym (append_assoc (map word words) (flat_map prints_star stars) rest))
+    subst (λ v. TypeStarsRead (star ∷ v) (words ∷ stars) rest) (sym (append_assoc (map word words) (flat_map prints_star stars) rest))
     (one_star words stars _ us rest (words_complete words us these (stars_begin stars rest ends)) (stars_complete stars rest those ends last))

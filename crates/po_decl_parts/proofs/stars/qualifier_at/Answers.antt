@@ -1,5 +1,5 @@
 use Rattle.std.proofs.Common.{refl}
-use Rattle.po_exp_read.proofs.Telling.{none_told}
+use Rattle.std.proofs.lemmas.Bool.{iff_false}
 use Rattle.po_decl_parts.proofs.Starred.{qualifier_word, not_qualifier}
 use Rattle.po_decl_parts.proofs.stars.qualifier_at.Goals as goal
 
@@ -7,7 +7,7 @@ pub returns-in_default-clause-first : goal.returns-in_default-clause-first
 returns-in_default-clause-first c = λ b. c.in_default.ensures.first (qualifier_word _ b)
 
 pub returns-then-not-is_qualifier-clause-first : goal.returns-then-not-is_qualifier-clause-first
-returns-then-not-is_qualifier-clause-first c = not_qualifier c.in-Some.ensures.first (none_told (rw c.bytes.ensures at c.if-not-is_qualifier.ensures))
+returns-then-not-is_qualifier-clause-first c = not_qualifier c.in-Some.ensures.first (iff_false (rw c.bytes.ensures at c.if-not-is_qualifier.ensures) refl)
 
 pub returns-clause-first : goal.returns-clause-first
 returns-clause-first c = (rw c.bytes.ensures at (c.if-not-is_qualifier.ensures.0 refl), c.in-Some.ensures.first)

@@ -1,6 +1,6 @@
 use Rattle.std.proofs.Common.{arith}
 use Rattle.po_decl_parts.specs.Stars.{no_qualifier}
-use Rattle.po_decl_parts.proofs.Leading.{leads_on, leads_end}
+use Rattle.po_exp_parts.proofs.Leading.{leads_on, leads_end}
 use Rattle.po_decl_parts.proofs.Starred.{word_leads}
 use Rattle.po_decl_parts.proofs.stars.qualifiers_at.Goals as goal
 

@@ -1,7 +1,7 @@
-use Rattle.std.proofs.Common.{arith}
-use Rattle.po_exp_read.proofs.Telling.{none_told}
+use Rattle.std.proofs.Common.{refl, arith}
+use Rattle.std.proofs.lemmas.Bool.{iff_false}
 use Rattle.po_decl_parts.specs.Stars.{no_star}
-use Rattle.po_decl_parts.proofs.Leading.{leads_on, leads_end}
+use Rattle.po_exp_parts.proofs.Leading.{leads_on, leads_end}
 use Rattle.po_decl_parts.proofs.Starred.{star_leads}
 use Rattle.po_decl_parts.proofs.stars.stars_at.Goals as goal
 
@@ -18,4 +18,4 @@ loop-alloc-preserved c =
     })
 
 pub returns-clause-found : goal.returns-clause-found
-returns-clause-found c = leads_end c.loop-alloc.invariant.leads (no_star _ (none_told c.loop-alloc-test.ensures.first))
+returns-clause-found c = leads_end c.loop-alloc.invariant.leads (no_star _ (iff_false c.loop-alloc-test.ensures.first refl))

@@ -1,7 +1,7 @@
 use Rattle.std.proofs.Common.{◌≤◌, ◌-◌, length}
-use Rattle.po_exp_read.specs.Longest.{signs_between}
+use Rattle.po_exp_parts.specs.Places.{signs_between}
 use Rattle.po_decl_parts.specs.Stars.{StarsRead}
-use Rattle.po_decl_parts.proofs.Leading.{Leads}
+use Rattle.po_exp_parts.proofs.Leading.{Leads}
 use Rattle.po_decl_parts.proofs.stars.stars_at.Given as goal
 
 abbrev pub invariant-loop-alloc : goal.invariant-loop-alloc

@@ -1,0 +1,9 @@
+pub mod Places
+pub mod Levels
+pub mod Continuing
+pub mod TypeWords
+pub mod Seen
+pub mod OneSpecifier
+pub mod Reading
+pub mod Finding
+pub mod Remains
