@@ -25,12 +25,7 @@ use std::alloc::Global;
 
 /// The continuation that stands at a place, where there is one of level `low` or a higher one that takes an operand of
 /// level `high` before it (C99 6.5.2, 6.5.5 to 6.5.17).
-pub fn continuation_at(
-    tokens: &[Token],
-    at: usize,
-    low: u8,
-    high: u8,
-) -> Option<Continuation>
+pub fn continuation_at(tokens: &[Token], at: usize, low: u8, high: u8) -> Option<Continuation>
     ensures { MatchOption result ((c : Next) (left : Sequence Sign) → Continues low high c → signs_from tokens.now at ≡ opens c ∷ left → ⊥) (λ c. Continues low high c × (signs_from tokens.now at ≡ opens c ∷ signs_from tokens.now (at + 1)) × (at < length tokens.now)) }
 {
     if at >= tokens.len() {
@@ -87,11 +82,7 @@ fn leaf_of(token: &Token, names: &Names) -> Result<Option<Exp>, Memory>
 
 /// The name, the number or the character at a place, as an operand (C99 6.5.1); None exactly where none stands there. `Memory` where
 /// memory is refused.
-pub fn leaf_at(
-    tokens: &[Token],
-    names: &Names,
-    at: usize,
-) -> Result<Option<Found<Leveled>>, Memory>
+pub fn leaf_at(tokens: &[Token], names: &Names, at: usize) -> Result<Option<Found<Leveled>>, Memory>
     requires inside { at < length tokens.now }
     requires plain { BeginsOtherwise (signs_from tokens.now at) }
     ensures { (least depth : ℕ) → least ≤ 15 → 1 ≤ depth → IfOk result (λ found. Finds operand_height (StandsAsOperand names.now.typedefs least (signs_from tokens.now at)) depth at tokens.now found) }
@@ -110,11 +101,7 @@ pub fn leaf_at(
 }
 
 /// The member's name at a place (C99 6.5.2.3); None exactly where none stands there. `Memory` where memory is refused.
-pub fn selected_at(
-    tokens: &[Token],
-    at: usize,
-    s: Selector,
-) -> Result<Option<Found<Tail>>, Memory>
+pub fn selected_at(tokens: &[Token], at: usize, s: Selector) -> Result<Option<Found<Tail>>, Memory>
     ensures { (types : Sequence (Sequence ℕ)) (depth : ℕ) → IfOk result (λ found. Finds tail_height (Follows types (c.Select s) (signs_from tokens.now at)) depth at tokens.now found) }
 {
     match name_at(tokens, at) {

@@ -6,8 +6,8 @@
 //! a type name (`seen`, `type_words`).
 #![tactic(auto)]
 
-mod compounds;
 pub mod characters;
+mod compounds;
 pub mod continuation;
 pub mod found;
 pub mod leaves;
