@@ -1,5 +1,5 @@
 -- Rows of digits, one digit after the other.
-use Rattle.std.proofs.Common.{◌≡◌, ℕ, ◌+◌, ◌*◌, ◌<◌, ◌≤◌, List, ◌∷◌, [], length, drop, get_or, true, false, arith, refl, sym, ◌∙◌}
+use Rattle.std.proofs.Common.{◌≡◌, ℕ, ◌+◌, ◌*◌, ◌<◌, ◌≤◌, List, ◌∷◌, [], length, drop, get_or, arith, refl, sym, ◌∙◌}
 use Rattle.std.specs.Prelude.{Option, Some, None, SomeIff, ◌^◌}
 use Rattle.std.proofs.lemmas.List.{drop_more, drop_all}
 use Rattle.po_tree.specs.Literals.{digit, behind_digits}

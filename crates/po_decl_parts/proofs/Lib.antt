@@ -1,6 +1,5 @@
 pub mod Naming
 pub mod Endings
-pub mod Starred
 pub mod Bracketed
 pub mod Listed
 pub mod FirstWords

@@ -1,5 +1,5 @@
 -- Constants before an end, as a size or the value of an enumerator is (C99 6.6).
-use Rattle.std.specs.Prelude.{ℕ, List, [], ◌∷◌}
+use Rattle.std.specs.Prelude.{ℕ, List}
 use Rattle.po_tree.specs.declared.expression.Exp.{Exp}
 use Rattle.po_tree.specs.Signs.{Sign}
 use Rattle.po_exp_read.specs.Longest.{StandsAt}

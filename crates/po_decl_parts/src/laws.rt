@@ -11,7 +11,7 @@ ghost use Rattle.po_decl_parts.specs.Enumerators.{EnumeratorsRead};
 ghost use Rattle.po_decl_parts.specs.Printed.{StarsPrinted, SizesPrinted, EnumeratorsPrinted, SpecifierPrinted, BeginsSpecifiers, HasMembers};
 ghost use Rattle.po_decl_parts.specs.Sizes.{SizesRead};
 ghost use Rattle.po_decl_parts.specs.Specifiers.{SpecifierStands};
-ghost use Rattle.po_decl_parts.specs.Stars.{StarsRead};
+ghost use Rattle.po_exp_parts.specs.Stars.{StarsRead};
 
 /// Stars are read exactly where they are well formed, printed, and all that stand there; of two readings one is the other.
 pub fn stars_are_all_stars()

@@ -1,4 +1,4 @@
-ghost use Rattle.std.specs.Prelude.{ℕ, Bool, ◌≡◌, ◌≤◌, ◌<◌, ◌+◌, ◌∷◌, ◌↔◌, codes, length, IsTrue, Contains, IfOk, IfSome, IfNone, MatchOption, OnSome, List as Sequence};
+ghost use Rattle.std.specs.Prelude.{ℕ, Bool, ◌≡◌, ◌≤◌, ◌<◌, ◌+◌, ◌∷◌, ◌↔◌, codes, length, IsTrue, IfOk, IfSome, IfNone, MatchOption, OnSome, List as Sequence};
 ghost use Rattle.po_tree.specs.declared.expression.Specifier.TheVariants as sp;
 ghost use Rattle.po_tree.specs.Words.{IsName};
 ghost use Rattle.po_tree.specs.Expressions.{untyped};

@@ -12,7 +12,8 @@ pub mod Signing
 pub mod TypeWordsSame
 pub mod TypeWordsKinds
 pub mod TypeWordsRead
-pub mod TypeWordsStars
 pub mod Fronts
 pub mod Leading
+pub mod Starred
+pub mod StarsPrinted
 pub mod SingleTokens

@@ -6,7 +6,7 @@ use Rattle.po_tree.specs.declared.expression.Specifier.TheVariants as sp
 use Rattle.po_tree.specs.Signs.{Sign, word}
 use Rattle.po_tree.specs.Words.{IsName, type_words, qualifiers}
 use Rattle.po_tree.specs.Expressions.{Typed, untyped, by_words, by_name}
-use Rattle.po_exp_parts.specs.Places.{BeginsWord, BeginsName}
+use Rattle.po_exp_parts.specs.Places.{BeginsName}
 use Rattle.po_exp_parts.specs.TypeWords.{IsTypeStart, StartsType, SpecsRead, specs_end}
 use Rattle.po_exp_parts.specs.TypeWords as words
 use Rattle.po_exp_parts.specs.OneSpecifier.{TagRead, struct_tag, enum_tag, SpecRead, qualifier, type_word, typedef_name, tag}

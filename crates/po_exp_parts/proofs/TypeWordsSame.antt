@@ -1,44 +1,16 @@
--- From the same signs the same words and stars of a type name are read.
-use Rattle.std.proofs.Common.{◌≡◌, ℕ, List, [], ◌∷◌, ap, sym, ◌∙◌, refl, subst, codes, Contains, inl, inr, Some, None, false, cond, arith}
+-- From the same signs the same words of a type name are read.
+use Rattle.std.proofs.Common.{◌≡◌, ℕ, List, [], ◌∷◌, ap, sym, ◌∙◌, refl, inl, inr, Some, None, false, arith}
 use Rattle.po_base.specs.declared.token.TokenKind.{TokenKind}
 use Rattle.po_base.specs.declared.token.TokenKind.TheVariants as k
 use Rattle.po_tree.specs.declared.expression.Specifier.{Specifier}
 use Rattle.po_tree.specs.declared.expression.Specifier.TheVariants as sp
-use Rattle.po_tree.specs.Signs.{Sign, word, star}
-use Rattle.po_tree.specs.Words.{IsName, keywords, type_words, qualifiers}
+use Rattle.po_tree.specs.Signs.{Sign}
 use Rattle.po_tree.specs.Expressions.{Typed, untyped}
-use Rattle.po_exp_parts.specs.Places.{Begins, BeginsWord}
-use Rattle.po_exp_parts.specs.TypeWords.{SpecsRead, specs_end, qualifier, type_word, typedef_name, struct_tag, enum_tag, WordsRead, words_end, one_word, TypeStarsRead, stars_end, one_star, StartsType}
+use Rattle.po_exp_parts.specs.Places.{BeginsWord}
+use Rattle.po_exp_parts.specs.TypeWords.{SpecsRead, specs_end, qualifier, type_word, typedef_name, struct_tag, enum_tag, StartsType}
 use Rattle.po_exp_parts.proofs.SameSigns.{same_word}
 use Rattle.po_exp_parts.proofs.Keywords.{type_word_begins, qualifier_begins, struct_begins, enum_begins}
 use Rattle.po_exp_parts.proofs.Classes.{class_word, class_qualifier, class_type_word, class_name}
-
-words_along : {ts ts' us vs : List Sign} {words others : List (List ℕ)} → ts ≡ ts' → WordsRead ts words us → WordsRead ts' others vs → (words ≡ others) × (us ≡ vs)
-words_along q (words_end ts none) (words_end ts' none') = (refl, q)
-words_along q (words_end ts none) (one_word text rest ts' us' h w) = absurd (none (subst BeginsWord (sym q) refl))
-words_along q (one_word text rest ts us h w) (words_end ts' none) = absurd (none (subst BeginsWord q refl))
-words_along q (one_word text rest ts us h w) (one_word text' rest' ts' us' h' w') =
-    let p = same_word q in
-    let r = words_along p.1 w w' in
-    (ap (λ v. v ∷ rest) p.0 ∙ ap (λ v. text' ∷ v) r.0, r.1)
-
--- from the same signs the same qualifiers are read
-pub words_same : {ts us vs : List Sign} {words others : List (List ℕ)} → WordsRead ts words us → WordsRead ts others vs → (words ≡ others) × (us ≡ vs)
-words_same w v = words_along refl w v
-
-stars_along : {ts ts' us vs : List Sign} {stars others : List (List (List ℕ))} → ts ≡ ts' → TypeStarsRead ts stars us → TypeStarsRead ts' others vs → (stars ≡ others) × (us ≡ vs)
-stars_along q (stars_end ts none) (stars_end ts' none') = (refl, q)
-stars_along q (stars_end ts none) (one_star words stars ts' us' vs' w v) = absurd (none (subst (Begins star) (sym q) refl))
-stars_along q (one_star words stars ts us vs w v) (stars_end ts' none) = absurd (none (subst (Begins star) q refl))
-stars_along q (one_star words stars ts us vs w v) (one_star words' stars' ts' us' vs' w' v') =
-    let rests : ts ≡ ts' = cc in
-    let p = words_along rests w w' in
-    let r = stars_along p.1 v v' in
-    (ap (λ z. z ∷ stars) p.0 ∙ ap (λ z. words' ∷ z) r.0, r.1)
-
--- and the same stars
-pub stars_same : {ts us vs : List Sign} {stars others : List (List (List ℕ))} → TypeStarsRead ts stars us → TypeStarsRead ts others vs → (stars ≡ others) × (us ≡ vs)
-stars_same w v = stars_along refl w v
 
 -- what the first sign is among specifiers
 abbrev class_kind : TokenKind → List ℕ → ℕ

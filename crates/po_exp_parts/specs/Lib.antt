@@ -1,6 +1,7 @@
 pub mod Places
 pub mod Levels
 pub mod Continuing
+pub mod Stars
 pub mod TypeWords
 pub mod Seen
 pub mod OneSpecifier

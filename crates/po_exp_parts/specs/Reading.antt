@@ -21,7 +21,8 @@ use Rattle.po_tree.specs.Operators.{least_right, least_operand, prefix_sign, pre
 use Rattle.po_tree.specs.Expressions.{IsLeaf, untyped}
 use Rattle.po_exp_parts.specs.Continuing.{opens, IsUsed, level_of, least_before, grow}
 use Rattle.po_exp_parts.specs.Places.{Begins}
-use Rattle.po_exp_parts.specs.TypeWords.{SpecsRead, TypeStarsRead}
+use Rattle.po_exp_parts.specs.Stars.{StarsRead}
+use Rattle.po_exp_parts.specs.TypeWords.{SpecsRead}
 
 mutual
   -- Reads types l ts x us: an expression x of level l or a higher one stands at the front of ts, and us are left
@@ -68,10 +69,10 @@ mutual
     last : (x : Exp) (ts us : List Sign) → Reads types 1 ts x (closing ∷ us) → Items types ts (x ∷ []) us
     further : (x : Exp) (xs : List Exp) (ts us vs : List Sign) → Reads types 1 ts x (comma ∷ us) → Items types us xs vs → Items types ts (x ∷ xs) vs
 
-  -- a type name that no word, no star and no bracket follows
+  -- a type name that no qualifier, no star and no bracket follows
   pub data TypeRead (types : List (List ℕ)) : List Sign → TypeName → List Sign → Type 0 where
     type_read : (spec : Specifier) (specs : List Specifier) (stars : List (List (List ℕ))) (suffix : Suffix) (ts us vs ws : List Sign) →
-        SpecsRead types untyped ts (spec ∷ specs) us → TypeStarsRead us stars vs → SuffixRead types vs suffix ws →
+        SpecsRead types untyped ts (spec ∷ specs) us → StarsRead us stars vs → SuffixRead types vs suffix ws →
         TypeRead types ts (record { specs = spec ∷ specs; declarator = record { stars = stars; name = None; suffix = suffix } }) ws
 
   pub data SuffixRead (types : List (List ℕ)) : List Sign → Suffix → List Sign → Type 0 where

@@ -1,12 +1,12 @@
--- How the words and stars of a type name are read (C99 6.7.6).
+-- How the words of a type name are read (C99 6.7.6).
 use Rattle.std.specs.Prelude.{ℕ, ◌≡◌, List, [], ◌∷◌, ◌++◌, codes, Contains, Some, None, false, ◌⊎◌}
 use Rattle.po_base.specs.declared.token.TokenKind.TheVariants as k
 use Rattle.po_tree.specs.declared.expression.Specifier.{Specifier}
 use Rattle.po_tree.specs.declared.expression.Specifier.TheVariants as sp
-use Rattle.po_tree.specs.Signs.{Sign, word, star}
+use Rattle.po_tree.specs.Signs.{Sign, word}
 use Rattle.po_tree.specs.Words.{IsName, type_words, qualifiers}
 use Rattle.po_tree.specs.Expressions.{Typed, untyped, by_words, by_name, TakesWord}
-use Rattle.po_exp_parts.specs.Places.{Begins, BeginsWord}
+use Rattle.po_exp_parts.specs.Places.{BeginsWord}
 
 -- the keywords with which a type name may begin
 abbrev pub type_keywords : List (List ℕ)
@@ -33,15 +33,3 @@ pub data SpecsRead (types : List (List ℕ)) : Typed → List Sign → List Spec
       SpecsRead types by_name ts rest us → SpecsRead types untyped (word (codes "struct") ∷ (word tag ∷ ts)) (sp.Struct (Some tag) None ∷ rest) us
   enum_tag : (tag : List ℕ) (rest : List Specifier) (ts us : List Sign) → IsName tag →
       SpecsRead types by_name ts rest us → SpecsRead types untyped (word (codes "enum") ∷ (word tag ∷ ts)) (sp.Enum (Some tag) None false ∷ rest) us
-
--- all words at the front are these qualifiers
-pub data WordsRead : List Sign → List (List ℕ) → List Sign → Type 0 where
-  words_end : (ts : List Sign) → (BeginsWord ts → ⊥) → WordsRead ts [] ts
-  one_word : (text : List ℕ) (rest : List (List ℕ)) (ts us : List Sign) → Contains qualifiers text →
-      WordsRead ts rest us → WordsRead (word text ∷ ts) (text ∷ rest) us
-
--- all stars at the front, each with the qualifiers behind it
-pub data TypeStarsRead : List Sign → List (List (List ℕ)) → List Sign → Type 0 where
-  stars_end : (ts : List Sign) → (Begins star ts → ⊥) → TypeStarsRead ts [] ts
-  one_star : (words : List (List ℕ)) (stars : List (List (List ℕ))) (ts us vs : List Sign) → WordsRead ts words us →
-      TypeStarsRead us stars vs → TypeStarsRead (star ∷ ts) (words ∷ stars) vs

@@ -15,10 +15,12 @@ pub fn digit(byte: u8) -> u8
     }
 }
 
-/// A character of a literal: its value, and where what stands behind it begins.
+/// A character of a literal (C99 6.4.4.4, 6.4.5).
 #[derive(Clone, Copy)]
 pub struct FirstCharacter {
+    /// Its value.
     pub value: u8,
+    /// The place behind it.
     pub end: usize,
 }
 
@@ -120,7 +122,7 @@ pub fn first_character(text: &[u8], at: usize, quote: u8) -> Option<FirstCharact
     })
 }
 
-/// Whether a text begins with this quote.
+/// Whether a text begins with this quote (C99 6.4.4.4, 6.4.5).
 pub fn begins(text: &[u8], quote: u8) -> bool
     ensures some { IsTrue result → 0 < length text.now }
     ensures front { MatchBool result (text.now ≡ quote ∷ drop 1 text.now) ((rest : List ℕ) → text.now ≡ quote ∷ rest → ⊥) }
@@ -131,7 +133,7 @@ pub fn begins(text: &[u8], quote: u8) -> bool
     text[0] == quote
 }
 
-/// Whether the quote is all that stands from `at` on.
+/// Whether the quote is all that stands from `at` on (C99 6.4.4.4, 6.4.5).
 pub fn is_closed(text: &[u8], at: usize, quote: u8) -> bool
     requires { at ≤ length text.now }
     ensures { IsTrue result ↔ drop at text.now ≡ quote ∷ [] }

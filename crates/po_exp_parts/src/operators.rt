@@ -1,5 +1,5 @@
 // Operators, their texts and their levels.
-ghost use Rattle.std.specs.Prelude.{List, ℕ, ◌≡◌, ◌<◌, MatchOption, ◌∷◌, []};
+ghost use Rattle.std.specs.Prelude.{◌≡◌, ◌<◌, MatchOption, ◌∷◌, []};
 ghost use Rattle.po_base.specs.declared.operators.Op.{Op as Written};
 ghost use Rattle.po_tree.specs.declared.operator.Infix.{Infix as Joining};
 ghost use Rattle.po_tree.specs.declared.operator.Infix.TheVariants as i;

@@ -18,7 +18,7 @@ pub(crate) fn is_sign(token: &Token, kind: TokenKind, text: &[u8]) -> bool
     token.text.bytes() == text
 }
 
-/// Whether this token stands at a place.
+/// Whether a token of this kind and these bytes stands at a place (C99 6.4).
 pub fn stands(tokens: &[Token], at: usize, kind: TokenKind, text: &[u8]) -> bool
     ensures { IsTrue result ↔ Begins (record { kind = kind; text = text.now }) (signs_from tokens.now at) }
 {

@@ -31,7 +31,7 @@ fn is_punct(token: &Token, text: &[u8]) -> bool
     is_sign(token, TokenKind::Punct, text)
 }
 
-/// Whether this punctuator stands at a place before `to`.
+/// Whether this punctuator stands at a place before `to` (C99 6.4.6).
 pub fn stands(tokens: &Tokens, at: u32, to: u32, text: &[u8]) -> bool
     ensures first { IsTrue result ↔ Begins (punct text.now) (signs_between tokens.now.list at to) }
     ensures within { MatchBool result ((at < to) × (at < length tokens.now.list)) (Unit {0}) }

@@ -25,7 +25,7 @@ pub fn takes_word(seen: Seen) -> bool
     }
 }
 
-/// Whether there is no type specifier yet.
+/// Whether there is no type specifier yet (C99 6.7.2).
 pub fn is_untyped(seen: Seen) -> bool
     ensures { IsTrue result ↔ (typed seen ≡ untyped) }
 {

@@ -1,16 +1,15 @@
-// The words and stars of a type name.
-ghost use Rattle.std.specs.Prelude.{◌≡◌, ◌≤◌, ◌<◌, ◌+◌, ◌↔◌, length, IsTrue, Contains, IfOk, IfSome, IfNone};
+// The words of a type name.
+ghost use Rattle.std.specs.Prelude.{◌≤◌, ◌<◌, ◌+◌, ◌↔◌, length, IsTrue, Contains, IfOk, IfSome, IfNone};
 ghost use Rattle.po_tree.specs.Words.{IsName};
 ghost use Rattle.po_tree.specs.Expressions.{untyped};
-ghost use Rattle.po_exp_parts.specs.TypeWords.{IsTypeStart, StartsType, SpecsRead, WordsRead, TypeStarsRead};
-ghost use Rattle.po_exp_parts.specs.Seen.{typed};
+ghost use Rattle.po_exp_parts.specs.TypeWords.{IsTypeStart, StartsType, SpecsRead};
 ghost use Rattle.po_exp_parts.specs.OneSpecifier.{TagRead, StandsBehind, NoneBehind};
 ghost use Rattle.po_exp_parts.specs.Places.{signs_from};
 
-use crate::places::{name_at, stands, word_at};
+use crate::places::{name_at, word_at};
 use crate::seen::{Seen, is_untyped, takes_word};
 use crate::words::{is_name, is_qualifier, is_type_keyword, is_type_word};
-use po_base::{List, Memory, Text, Token, TokenKind};
+use po_base::{List, Memory, Text, Token};
 use po_tree::{Names, Specifier};
 use std::alloc::Global;
 
@@ -121,51 +120,4 @@ pub fn specs_at(
         next = end;
     }
     Ok(Some((specs, next)))
-}
-
-/// All words at a place, where they are qualifiers. Time is linear in them.
-fn words_at(
-    alloc: Global,
-    tokens: &[Token],
-    at: usize,
-) -> Result<Option<(List<Text>, usize)>, Memory>
-    requires { at ≤ length tokens.now }
-    ensures found { IfOk result (λ found. IfSome found (λ p. WordsRead (signs_from tokens.now at) p.0 (signs_from tokens.now p.1))) }
-    ensures within { IfOk result (λ found. IfSome found (λ p. (at ≤ p.1) × (p.1 ≤ length tokens.now))) }
-    ensures none { IfOk result (λ found. IfNone found ((words : _) (left : _) → WordsRead (signs_from tokens.now at) words left → ⊥)) }
-{
-    let mut words = List::new(alloc);
-    let mut next = at;
-    while let Some(text) = word_at(tokens, next) {
-        if !is_qualifier(text.bytes()) {
-            return Ok(None);
-        }
-        words.push(text.share()?)?;
-        next += 1;
-    }
-    Ok(Some((words, next)))
-}
-
-/// All stars at a place (C99 6.7.6), each with the words behind it, where these are qualifiers. Time is linear in them. `Memory` where
-/// memory is refused.
-pub fn stars_at(
-    alloc: Global,
-    tokens: &[Token],
-    at: usize,
-) -> Result<Option<(List<List<Text>>, usize)>, Memory>
-    requires { at ≤ length tokens.now }
-    ensures found { IfOk result (λ found. IfSome found (λ p. TypeStarsRead (signs_from tokens.now at) p.0 (signs_from tokens.now p.1))) }
-    ensures within { IfOk result (λ found. IfSome found (λ p. (at ≤ p.1) × (p.1 ≤ length tokens.now))) }
-    ensures none { IfOk result (λ found. IfNone found ((stars : _) (left : _) → TypeStarsRead (signs_from tokens.now at) stars left → ⊥)) }
-{
-    let mut stars = List::new(alloc);
-    let mut next = at;
-    while stands(tokens, next, TokenKind::Punct, b"*") {
-        let Some((words, end)) = words_at(alloc, tokens, next + 1)? else {
-            return Ok(None);
-        };
-        stars.push(words)?;
-        next = end;
-    }
-    Ok(Some((stars, next)))
 }

@@ -16,11 +16,12 @@ use Rattle.po_tree.specs.Operators.{prefix_sign, prefixed, least_operand}
 use Rattle.po_tree.specs.Expressions.{IsLeaf, variable, integer, one_character}
 use Rattle.po_exp_parts.specs.Continuing.{opens, level_of, grow, GoesOn, by_continuation}
 use Rattle.po_exp_parts.specs.Places.{Begins}
-use Rattle.po_exp_parts.specs.TypeWords.{TypeStarsRead}
+use Rattle.po_exp_parts.specs.Stars.{StarsRead}
 use Rattle.po_exp_parts.specs.Reading.{Reads, begun, Operand, leaf, strings, paren, unary, size_of_type, cast, Climbs, stop, more, Follows, joined, chosen, indexed, called, selected, stepped, Arguments, no_arguments, arguments, Items, last, further, TypeRead, type_read, SuffixRead, plain, arrays, SizesRead, sizes_end, no_size, one_size}
 use Rattle.po_exp_parts.proofs.Signing.{opens_same, prefix_same}
 use Rattle.po_exp_parts.proofs.SameSigns.{same_word, same_string}
-use Rattle.po_exp_parts.proofs.TypeWordsSame.{specs_same, stars_same}
+use Rattle.po_exp_parts.proofs.TypeWordsSame.{specs_same}
+use Rattle.po_exp_parts.proofs.Starred.{stars_same}
 use Rattle.po_exp_read.proofs.Texts.{texts_compared}
 use Rattle.po_exp_read.proofs.Shortening.{climbs_shorten, follows_shorten}
 use Rattle.po_exp_parts.proofs.Fronts.{class_of, class_first, class_operand, leaf_told, leaf_most, operand_told, reads_no_bracket_end, items_no_closing, reads_no_type, type_starts, unary_no_type}
@@ -205,7 +206,7 @@ mutual
   pub type_same : {types : List (List ℕ)} {ts us vs : List Sign} {x y : TypeName} → TypeRead types ts x us → TypeRead types ts y vs → (x ≡ y) × (us ≡ vs)
   type_same {types = types} (type_read spec specs stars suffix ts us vs ws w v u) (type_read spec' specs' stars' suffix' ts' us' vs' ws' w' v' u') =
       let p = specs_same w w' in
-      let r = stars_same v (subst (λ z. TypeStarsRead z stars' vs') (sym p.1) v') in
+      let r = stars_same v (subst (λ z. StarsRead z stars' vs') (sym p.1) v') in
       let s = suffix_along r.1 u u' in
       (ap (λ z. type_of z stars suffix) p.0 ∙ (ap (λ z. type_of (spec' ∷ specs') z suffix) r.0 ∙ ap (λ z. type_of (spec' ∷ specs') stars' z) s.0), s.1)
 

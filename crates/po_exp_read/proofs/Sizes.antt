@@ -10,7 +10,8 @@ use Rattle.po_tree.specs.Heights.{height, type_height, suffix_height, or_none}
 use Rattle.po_tree.specs.Expressions.{untyped}
 use Rattle.po_tree.specs.Layers.{suffix_height-Plain, suffix_height-Arrays}
 use Rattle.po_exp_parts.specs.Places.{Begins}
-use Rattle.po_exp_parts.specs.TypeWords.{SpecsRead, TypeStarsRead}
+use Rattle.po_exp_parts.specs.Stars.{StarsRead}
+use Rattle.po_exp_parts.specs.TypeWords.{SpecsRead}
 use Rattle.po_exp_parts.specs.Reading.{TypeRead, type_read, SuffixRead, plain, arrays, SizesRead, sizes_end, no_size, one_size}
 use Rattle.po_exp_parts.specs.Finding.{IsBest, IsNone, suffix_of, type_of}
 use Rattle.po_exp_read.specs.Enclosed.{sizes_height, StandsClosed, StandsEnclosed}
@@ -20,7 +21,8 @@ use Rattle.po_exp_read.proofs.Closed.{closed_same}
 use Rattle.po_exp_read.proofs.Heights.{type_height-suffix}
 use Rattle.po_exp_read.proofs.Specifiers.{specs_sound}
 use Rattle.po_exp_read.proofs.Compared.{sizes_same}
-use Rattle.po_exp_parts.proofs.TypeWordsSame.{specs_same, stars_same}
+use Rattle.po_exp_parts.proofs.TypeWordsSame.{specs_same}
+use Rattle.po_exp_parts.proofs.Starred.{stars_same}
 use Rattle.po_exp_parts.proofs.Leading.{Leads, leads_end}
 
 -- sizes of at most this height
@@ -107,7 +109,7 @@ record Parts (types : List (List ℕ)) (ts : List Sign) (name : TypeName) (us : 
   behind_stars : List Sign
   is : name ≡ type_of (spec ∷ specs) stars sizes
   specs_read : SpecsRead types untyped ts (spec ∷ specs) behind_specs
-  stars_read : TypeStarsRead behind_specs stars behind_stars
+  stars_read : StarsRead behind_specs stars behind_stars
   sizes_read : SizesRead types behind_stars sizes us
 
 parts_of : {types : List (List ℕ)} {ts us : List Sign} {name : TypeName} → TypeRead types ts name us → Parts types ts name us
@@ -140,7 +142,7 @@ specs_nowhere depth none name us w h = let p = parts_of w in none (p.spec ∷ p.
 pub specs_empty : {types : List (List ℕ)} (depth : ℕ) {ts us : List Sign} → SpecsRead types untyped ts [] us → IsNone type_height (StandsEnclosed types ts) depth
 specs_empty depth r name us w h = let p = parts_of w in let s = specs_same r p.specs_read in absurd cc
 
-type_found : {types : List (List ℕ)} {ts us vs : List Sign} {stars : List (List (List ℕ))} (specs : List Specifier) → specs ≢ [] → SpecsRead types untyped ts specs us → TypeStarsRead us stars vs →
+type_found : {types : List (List ℕ)} {ts us vs : List Sign} {stars : List (List (List ℕ))} (specs : List Specifier) → specs ≢ [] → SpecsRead types untyped ts specs us → StarsRead us stars vs →
     (depth : ℕ) (sizes : List (Option Exp)) (ws rest : List Sign) → IsBest sizes_height (SizesRead types vs) depth sizes ws → ws ≡ closing ∷ rest →
     ((name : TypeName) (xs : List Sign) → TypeRead types ts name xs → (own : List (Option Exp)) × (name ≡ type_of specs stars own) × SizesRead types vs own xs × (type_height name ≡ sizes_height own)) →
     IsBest type_height (StandsEnclosed types ts) depth (type_of specs stars sizes) rest
@@ -155,19 +157,12 @@ type_found {types = types} {ts = ts} {us = us} {vs = vs} {stars = stars} (spec �
 }
 
 module _ {types : List (List ℕ)} {ts us : List Sign} (specs : List Specifier) (r : SpecsRead types untyped ts specs us) where
-  -- no stars behind the specifiers
-  pub stars_nowhere : (depth : ℕ) → ((stars : List (List (List ℕ))) (vs : List Sign) → TypeStarsRead us stars vs → ⊥) → IsNone type_height (StandsEnclosed types ts) depth
-  stars_nowhere depth none name ws w h =
-      let p = parts_of w in
-      let s = specs_same r p.specs_read in
-      none p.stars p.behind_stars (subst (λ v. TypeStarsRead v p.stars p.behind_stars) (sym s.1) p.stars_read)
-
-  module _ {vs : List Sign} (stars : List (List (List ℕ))) (v : TypeStarsRead us stars vs) where
+  module _ {vs : List Sign} (stars : List (List (List ℕ))) (v : StarsRead us stars vs) where
     sizes_of : {name : TypeName} {ws : List Sign} → TypeRead types ts name ws → (sizes : List (Option Exp)) × (name ≡ type_of specs stars sizes) × SizesRead types vs sizes ws × (type_height name ≡ sizes_height sizes)
     sizes_of {ws = ws} w =
         let p = parts_of w in
         let s = specs_same r p.specs_read in
-        let stars_read : TypeStarsRead us p.stars p.behind_stars = subst (λ b. TypeStarsRead b p.stars p.behind_stars) (sym s.1) p.stars_read in
+        let stars_read : StarsRead us p.stars p.behind_stars = subst (λ b. StarsRead b p.stars p.behind_stars) (sym s.1) p.stars_read in
         let q = stars_same v stars_read in (
           p.sizes,
           p.is ∙ ap (λ b. type_of b p.stars p.sizes) (sym s.0) ∙ ap (λ b. type_of specs b p.sizes) (sym q.0),

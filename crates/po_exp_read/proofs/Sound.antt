@@ -14,7 +14,8 @@ use Rattle.po_tree.specs.Expressions.{Formed, leaf as formed_leaf, strings as fo
 use Rattle.po_exp_parts.specs.Continuing.{opens, IsUsed, level_of, least_before, grow}
 use Rattle.po_exp_parts.specs.Reading.{Reads, begun, Operand, leaf, strings, paren, unary, size_of_type, cast, Climbs, stop, more, Follows, joined as follows_joined, chosen, indexed, called, selected as follows_selected, stepped, Arguments, no_arguments, arguments, Items, last, further, TypeRead, type_read, SuffixRead, plain, arrays, SizesRead, sizes_end, no_size, one_size}
 use Rattle.po_exp_read.proofs.LevelBounds.{formed_level}
-use Rattle.po_exp_read.proofs.Specifiers.{specs_sound, stars_sound}
+use Rattle.po_exp_parts.proofs.StarsPrinted.{stars_sound}
+use Rattle.po_exp_read.proofs.Specifiers.{specs_sound}
 
 -- what the sizes of arrays print
 abbrev pub flat_sizes : List (Option Exp) → List Sign

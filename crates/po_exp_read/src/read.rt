@@ -23,9 +23,10 @@ use po_exp_parts::levels::{ASSIGNMENT, CAST, COMMA, CONDITIONAL, Level};
 use po_exp_parts::operands::{convert, enclose, measure, precede, unleveled};
 use po_exp_parts::operators::{least_operand, least_right, level_of, prefix_of};
 use po_exp_parts::places::stands;
+use po_exp_parts::stars::stars_at;
 use po_exp_parts::tails::{as_arguments, as_choice, as_right, as_subscript, extend};
 use po_exp_parts::type_names::named;
-use po_exp_parts::type_words::{specs_at, stars_at, starts_type};
+use po_exp_parts::type_words::{specs_at, starts_type};
 use po_tree::{Exp, Infix, Names, Prefix, TypeName};
 use std::alloc::Global;
 
@@ -384,9 +385,7 @@ fn type_at(
     if specs.is_empty() {
         return Ok(None);
     }
-    let Some((stars, stars_end)) = stars_at(alloc, tokens, specs_end)? else {
-        return Ok(None);
-    };
+    let (stars, stars_end) = stars_at(alloc, tokens, specs_end)?;
     let Some(sizes) = sizes_at(alloc, tokens, names, stars_end, depth)? else {
         return Ok(None);
     };

@@ -1,5 +1,5 @@
 -- The initialiser at the front of tokens (C99 6.7.8).
-use Rattle.std.specs.Prelude.{ℕ, ◌≤◌, ◌≡◌, List, [], ◌∷◌, ◌++◌}
+use Rattle.std.specs.Prelude.{ℕ, ◌≤◌, ◌≡◌, List, ◌++◌}
 use Rattle.po_tree.specs.declared.declaration.Init.{Init}
 use Rattle.po_tree.specs.Signs.{Sign}
 use Rattle.po_tree.specs.Printing.{flat_init}

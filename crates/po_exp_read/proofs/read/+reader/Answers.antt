@@ -13,7 +13,7 @@ use Rattle.po_exp_read.proofs.Closed.{closed_best, closed_none, chosen_best, cho
 use Rattle.po_exp_read.proofs.Operands.{paren_made, cast_low, cast_nowhere, cast_none, cast_best, unary_made, measures_none, size_here, size_made, right_made, index_made, call_made, step_best}
 use Rattle.po_exp_parts.proofs.Leading.{leads_on}
 use Rattle.po_exp_read.proofs.Items.{item_unparted, item_leads, items_best, arguments_empty, arguments_made, height_push}
-use Rattle.po_exp_read.proofs.Sizes.{empty_leads, size_leads, size_nowhere, sizes_best, sizes_height_push, specs_empty, stars_nowhere, sizes_nowhere, type_best, type_open, type_sizes}
+use Rattle.po_exp_read.proofs.Sizes.{empty_leads, size_leads, size_nowhere, sizes_best, sizes_height_push, specs_empty, sizes_nowhere, type_best, type_open, type_sizes}
 use Rattle.po_exp_read.proofs.read.+reader.Goals as goal
 
 pub closed-returns-then-not-stands : goal.closed-returns-then-not-stands
@@ -291,32 +291,27 @@ type_at-returns-then-is_empty t c =
 pub type_at-returns-in_default-2 : goal.type_at-returns-in_default-2
 type_at-returns-in_default-2 t c =
     let s = rw c.in-Some.is at c.in_ok-specs.ensures.found in
-    stars_nowhere c.in-Some.specs s c.args.depth (rw c.in_default-2.is at c.in_ok-stars.ensures.none)
-
-pub type_at-returns-in_default-3 : goal.type_at-returns-in_default-3
-type_at-returns-in_default-3 t c =
-    let s = rw c.in-Some.is at c.in_ok-specs.ensures.found in
-    let r = rw c.in-Some-2.is at c.in_ok-stars.ensures.found in
-    sizes_nowhere c.in-Some.specs s c.in-Some-2.stars r c.args.depth (rw c.in_default-3.is at c.in_ok-sizes.ensures)
+    let r = c.in_ok-stars.ensures.found in
+    sizes_nowhere c.in-Some.specs s c.in_ok-stars.stars r c.args.depth (rw c.in_default-2.is at c.in_ok-sizes.ensures)
 
 pub type_at-returns-then-not-stands : goal.type_at-returns-then-not-stands
 type_at-returns-then-not-stands t c =
     let s = rw c.in-Some.is at c.in_ok-specs.ensures.found in
-    let r = rw c.in-Some-2.is at c.in_ok-stars.ensures.found in
-    let f = rw c.in-Some-3.is at c.in_ok-sizes.ensures in
-    type_open c.in-Some.specs s c.in-Some-2.stars r c.args.depth c.in-Some-3.sizes.value _ f.best.stands (iff_false c.if-not-stands.ensures refl)
+    let r = c.in_ok-stars.ensures.found in
+    let f = rw c.in-Some-2.is at c.in_ok-sizes.ensures in
+    type_open c.in-Some.specs s c.in_ok-stars.stars r c.args.depth c.in-Some-2.sizes.value _ f.best.stands (iff_false c.if-not-stands.ensures refl)
 
 pub type_at-returns : goal.type_at-returns
 type_at-returns t c =
     let s = rw c.in-Some.is at c.in_ok-specs.ensures.found in
-    let r = rw c.in-Some-2.is at c.in_ok-stars.ensures.found in
-    let f = rw c.in-Some-3.is at c.in_ok-sizes.ensures in
+    let r = c.in_ok-stars.ensures.found in
+    let f = rw c.in-Some-2.is at c.in_ok-sizes.ensures in
     let specs_end = rw c.in-Some.is at c.in_ok-specs.ensures.within in
-    let stars_end = rw c.in-Some-2.is at c.in_ok-stars.ensures.within in
+    let stars_end = c.in_ok-stars.ensures in
     let ends = c.if-not-stands.ensures.0 refl in
     rw c.named.ensures (record {
-      best = type_best c.in-Some.specs s c.in-Some-2.stars r c.args.depth c.in-Some-3.sizes.value _ _ f.best (stands_first c.in-Some-3.sizes.end c.args.tokens.now closing ends) (iff_false c.if-is_empty.ensures refl);
-      counted = f.counted ∙ sym (type_sizes c.in-Some-2.stars c.in-Some-3.sizes.value s);
-      after = omega (arith, specs_end.0, stars_end.0, f.after);
-      within = omega (arith, stands_within c.in-Some-3.sizes.end c.args.tokens.now closing ends);
+      best = type_best c.in-Some.specs s c.in_ok-stars.stars r c.args.depth c.in-Some-2.sizes.value _ _ f.best (stands_first c.in-Some-2.sizes.end c.args.tokens.now closing ends) (iff_false c.if-is_empty.ensures refl);
+      counted = f.counted ∙ sym (type_sizes c.in_ok-stars.stars c.in-Some-2.sizes.value s);
+      after = omega (arith, specs_end.0, stars_end.after, f.after);
+      within = omega (arith, stands_within c.in-Some-2.sizes.end c.args.tokens.now closing ends);
     })

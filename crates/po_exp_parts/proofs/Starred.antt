@@ -4,7 +4,7 @@ use Rattle.std.specs.Prelude.{Contains}
 use Rattle.po_tree.specs.Signs.{Sign, word, star}
 use Rattle.po_tree.specs.Words.{qualifiers}
 use Rattle.po_exp_parts.specs.Places.{Begins, BeginsWord, BeginsQualifier}
-use Rattle.po_decl_parts.specs.Stars.{QualifiersRead, no_qualifier, one_qualifier, StarsRead, no_star, one_star}
+use Rattle.po_exp_parts.specs.Stars.{QualifiersRead, no_qualifier, one_qualifier, StarsRead, no_star, one_star}
 use Rattle.po_exp_parts.proofs.SameSigns.{same_word}
 use Rattle.po_exp_parts.proofs.Leading.{Leads}
 
