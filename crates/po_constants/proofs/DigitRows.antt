@@ -1,17 +1,11 @@
 -- Rows of digits, one digit after the other.
-use Rattle.std.proofs.Common.{◌≡◌, ℕ, ◌+◌, ◌*◌, ◌<◌, ◌≤◌, List, ◌∷◌, [], length, drop, get_or, true, false, arith, refl, sym, ◌∙◌}
-use Rattle.std.specs.Prelude.{Option, Some, None, SomeIff, ◌^◌, nat_lt}
+use Rattle.std.proofs.Common.{◌≡◌, ℕ, ◌+◌, ◌*◌, ◌<◌, ◌≤◌, List, ◌∷◌, [], length, drop, get_or, arith, refl, sym, ◌∙◌}
+use Rattle.std.specs.Prelude.{Option, Some, None, SomeIff, ◌^◌}
 use Rattle.std.proofs.lemmas.List.{drop_more, drop_all}
-use Rattle.std.proofs.lemmas.Bool.Decides.{nat_tests}
 use Rattle.po_tree.specs.Literals.{digit, behind_digits}
 use Rattle.po_typed.specs.Constants.{digits_value}
+use Rattle.po_exp_parts.proofs.Escapes.{below, not_below}
 use Rattle.po_constants.specs.Digits.{IsIn64}
-
-below : (a b : ℕ) → a < b → nat_lt a b ≡ true
-below a b h = grind (arith, nat_tests)
-
-not_below : (a b : ℕ) → b ≤ a → nat_lt a b ≡ false
-not_below a b h = grind (arith, nat_tests)
 
 -- the digits from one place of a text to another have this value, and those behind them go on with it
 pub record IsReadTo (text : List ℕ) (base from end : ℕ) (value : Option ℕ) : Type 0 where

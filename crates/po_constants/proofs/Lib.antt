@@ -1,6 +1,5 @@
 mod Among
 mod DigitRows
-mod Escapes
 mod Octal
 mod Quoted
 mod Results

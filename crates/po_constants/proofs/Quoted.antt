@@ -1,22 +1,10 @@
 -- Characters between quotes.
-use Rattle.std.proofs.Common.{◌≡◌, ℕ, ◌-◌, List, [], ◌∷◌, length, drop, sym, ◌∙◌, ap, refl, Some}
+use Rattle.std.proofs.Common.{◌≡◌, ℕ, List, [], ◌∷◌, drop, sym, ◌∙◌, ap, refl, Some}
 use Rattle.std.specs.Prelude.{ℤ}
-use Rattle.std.proofs.lemmas.List.{length-drop}
-use Rattle.po_tree.specs.Literals.{first_character, Characters, end_quote, next_character}
+use Rattle.po_tree.specs.Literals.{first_character, end_quote, next_character}
 use Rattle.po_typed.specs.Constants.{IsCharacterOf, as_signed_char}
 use Rattle.po_lists.proofs.Options.{one_some}
-
--- nothing but the quote
-pub one_left : (text : List ℕ) (at quote : ℕ) → drop at text ≡ quote ∷ [] → length text - at ≡ 1
-one_left text at quote q = sym (length-drop at text) ∙ ap length q
-
--- no character is the quote alone
-no_more : (quote : ℕ) (cs : List ℕ) → Characters quote [] cs → cs ≡ quote ∷ []
-no_more quote cs end_quote = refl
-
--- behind one character the quote stands
-one_read : (value : ℕ) (cs : List ℕ) → Characters 39 (value ∷ []) cs → first_character 39 cs ≡ Some (value, 39 ∷ [])
-one_read value cs (next_character value' none cs' own read h) = read ∙ ap (λ r. Some (value, r)) (no_more 39 own h)
+use Rattle.po_exp_parts.proofs.Quoted.{one_read}
 
 -- a character constant is a character and the quote
 pub character_of : (text rest : List ℕ) (value : ℕ) → text ≡ 39 ∷ drop 1 text → Some (value, rest) ≡ first_character 39 (drop 1 text) → rest ≡ 39 ∷ [] →

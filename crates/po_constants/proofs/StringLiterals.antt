@@ -5,27 +5,14 @@ use Rattle.std.proofs.lemmas.List.{append-nil, take_more}
 use Rattle.po_tree.specs.Literals.{first_character, Characters, end_quote, next_character}
 use Rattle.po_typed.specs.Constants.{AreStrings, no_more_strings, one_more_string}
 use Rattle.po_lists.proofs.Options.{one_some}
+use Rattle.po_exp_parts.proofs.Quoted.{Closes, goes_on, closes}
 use Rattle.po_constants.specs.Strings.{IsStringOf}
-
--- characters, and then the quote
-abbrev Closes : List ℕ → Type 0
-Closes cs = (values : List ℕ) × Characters 34 values cs
-
--- behind a character the others stand
-goes_on : (cs rest : List ℕ) (value : ℕ) → first_character 34 cs ≡ Some (value, rest) → Closes cs → Closes rest
-goes_on cs rest value read (values, end_quote) = absurd cc
-goes_on cs rest value read (values, next_character value' more cs' own read' h) = (more, subst (Characters 34 more) (ap (λ z. z.1) (one_some read' read)) h)
-
--- where no character stands the quote stands alone
-closes : (cs : List ℕ) → first_character 34 cs ≡ None → Closes cs → cs ≡ 34 ∷ []
-closes cs none (values, end_quote) = refl
-closes cs none (values, next_character value more cs' own read h) = absurd (cc (none, read))
 
 -- between the first quote and a place of the text these characters stand
 pub record IsQuoted (text : List ℕ) (end : ℕ) (done : List ℕ) : Type 0 where
   pub within : end ≤ length text
   pub sound : (values : List ℕ) → Characters 34 values (drop end text) → Characters 34 (done ++ values) (drop 1 text)
-  pub complete : Closes (drop 1 text) → Closes (drop end text)
+  pub complete : Closes 34 (drop 1 text) → Closes 34 (drop end text)
 
 pub begins : (text : List ℕ) → 1 ≤ length text → IsQuoted text 1 []
 begins text some = record { within = some; sound = λ values h. h; complete = λ h. h }
@@ -35,7 +22,7 @@ pub one_more : (text done : List ℕ) (end next value : ℕ) → IsQuoted text e
 one_more text done end next value q in' read = record {
   within = in';
   sound = λ values h. rw append_assoc (q.sound (value ∷ values) (next_character value values (drop end text) (drop next text) (sym read) h));
-  complete = λ h. goes_on (drop end text) (drop next text) value (sym read) (q.complete h);
+  complete = λ h. goes_on 34 (drop end text) (drop next text) value refl (sym read) (q.complete h);
 }
 
 -- the quote alone ends the literal
@@ -46,7 +33,7 @@ ended text done end first q last =
 pub not_ended : (text done : List ℕ) (end : ℕ) → IsQuoted text end done → None ≡ first_character 34 (drop end text) → (drop end text ≡ 34 ∷ [] → ⊥) → (values : List ℕ) → IsStringOf text values → ⊥
 not_ended text done end q none other values h =
     let own : drop 1 text ≡ h.rest = ap (drop 1) h.quoted in
-    other (closes (drop end text) (sym none) (q.complete (values, subst (Characters 34 values) (sym own) h.characters)))
+    other (closes 34 (drop end text) (sym none) (q.complete (values, subst (Characters 34 values) (sym own) h.characters)))
 
 -- a text that doesn't begin with the quote
 pub not_begun : (text : List ℕ) → ((rest : List ℕ) → text ≡ 34 ∷ rest → ⊥) → (values : List ℕ) → IsStringOf text values → ⊥

@@ -1,26 +1,15 @@
 ghost use Rattle.std.specs.Prelude.{ℕ, ◌≡◌, ◌≤◌, ◌+◌, ◌*◌, length, drop};
-ghost use Rattle.po_tree.specs.Literals as literals;
 ghost use Rattle.po_tree.specs.Literals.{behind_digits};
 ghost use Rattle.po_typed.specs.Constants.{digits_value};
 ghost use Rattle.po_constants.specs.Digits.{IsIn64};
+
+use po_exp_parts::characters::digit;
 
 /// A row of digits in a text: its value, where 64 bits hold it, and where the row ends.
 #[derive(Clone, Copy)]
 pub(crate) struct DigitRow {
     pub value: Option<u64>,
     pub end: usize,
-}
-
-/// The value of a digit; 16 where the byte is none.
-pub(crate) fn digit(byte: u8) -> u8
-    ensures { result ≡ literals.digit byte }
-{
-    match byte {
-        b'0'..=b'9' => byte - b'0',
-        b'a'..=b'f' => byte - b'a' + 10,
-        b'A'..=b'F' => byte - b'A' + 10,
-        _ => 16,
-    }
 }
 
 /// A value with one digit more behind it.

@@ -4,7 +4,8 @@ ghost use Rattle.po_typed.specs.Constants.{integer_value, is_decimal, digits_val
 ghost use Rattle.po_constants.specs.Digits.{IsIn64};
 ghost use Rattle.po_constants.specs.Integers.{IsHexadecimal};
 
-use crate::digits::{DigitRow, digit, digits};
+use crate::digits::{DigitRow, digits};
+use po_exp_parts::characters::digit;
 
 /// The digits of an integer constant, and whether they are decimal.
 #[derive(Clone, Copy)]

@@ -4,8 +4,8 @@ ghost use Rattle.po_typed.specs.Constants.{AreStrings};
 ghost use Rattle.po_constants.specs.Found.{Finds};
 ghost use Rattle.po_constants.specs.Strings.{IsStringOf};
 
-use crate::characters::{begins, first_character, is_closed};
 use po_base::{List, Memory, Text};
+use po_exp_parts::characters::{begins, first_character, is_closed};
 use std::alloc::Global;
 
 /// Adds the characters of a string literal; false where the text is none, and then the bytes are given up.

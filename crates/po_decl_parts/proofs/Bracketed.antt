@@ -4,11 +4,11 @@ use Rattle.std.specs.Prelude.{Option, Some, None}
 use Rattle.po_tree.specs.declared.expression.Exp.{Exp}
 use Rattle.po_tree.specs.Signs.{Sign, bracket, bracket_end}
 use Rattle.po_exp_read.specs.Longest.{StandsAt}
-use Rattle.po_exp_read.specs.TypeWords.{Begins}
+use Rattle.po_exp_parts.specs.Places.{Begins}
 use Rattle.po_decl_parts.specs.Constants.{ConstantStands}
 use Rattle.po_decl_parts.specs.Sizes.{SizesRead, sizes_end, no_size, one_size}
 use Rattle.po_decl_parts.proofs.Endings.{constant_same, no_bracket_end, bracketed}
-use Rattle.po_decl_parts.proofs.Leading.{Leads}
+use Rattle.po_exp_parts.proofs.Leading.{Leads}
 
 module _ {types : List (List ℕ)} where
   closed_same : {signs us vs : List Sign} {x y : Exp} → StandsAt 2 types signs x (bracket_end ∷ us) → StandsAt 2 types signs y (bracket_end ∷ vs) → (x ≡ y) × (us ≡ vs)

@@ -3,13 +3,14 @@ use Rattle.std.proofs.Common.{◌≡◌, ℕ, ◌≤◌, List, [], ◌∷◌, le
 use Rattle.po_tree.specs.declared.expression.Exp.{Exp}
 use Rattle.po_tree.specs.Signs.{Sign, semicolon, brace_end, bracket_end}
 use Rattle.po_tree.specs.NameSets.{AreSame}
-use Rattle.po_exp_read.specs.Continuing.{GoesOn}
-use Rattle.po_exp_read.specs.Longest.{StandsAt, IsLongestAt, IsEnd, at_comma, at_semicolon, at_bracket, at_brace, at_colon, at_parenthesis}
+use Rattle.po_exp_parts.specs.Continuing.{GoesOn}
+use Rattle.po_exp_read.specs.Longest.{StandsAt, IsLongestAt}
+use Rattle.po_exp_parts.specs.Places.{IsEnd, at_comma, at_semicolon, at_bracket, at_brace, at_colon, at_parenthesis, BeginsEnd}
 use Rattle.po_exp_read.proofs.Comparing.{Compared, same, longer, shorter, goes_on-none, goes_on-comma, goes_on-bracket_end, goes_on-colon, goes_on-closing, punct_string}
 use Rattle.po_exp_read.proofs.Compared.{reads_compared}
-use Rattle.po_exp_read.proofs.Fronts.{reads_no_bracket_end}
+use Rattle.po_exp_parts.proofs.Fronts.{reads_no_bracket_end}
 use Rattle.po_exp_read.proofs.Longest.{stand_reads_at, one_before_end}
-use Rattle.po_decl_parts.specs.Constants.{BeginsEnd, ConstantStands}
+use Rattle.po_decl_parts.specs.Constants.{ConstantStands}
 use Rattle.po_decl_parts.proofs.Naming.{stands_same}
 
 -- of two constants one is the other

@@ -8,12 +8,11 @@ use Rattle.po_tree.specs.declared.expression.Specifier.TheVariants as sp
 use Rattle.po_tree.specs.Signs.{Sign, word, brace}
 use Rattle.po_tree.specs.Words.{IsName, storage_classes, type_words, qualifiers}
 use Rattle.po_tree.specs.Expressions.{Typed, untyped, TakesWord}
-use Rattle.po_exp_read.specs.OneSpecifier.{BeginsName}
-use Rattle.po_exp_read.specs.TypeWords.{Begins, BeginsWord}
+use Rattle.po_exp_parts.specs.Places.{BeginsName, Begins, BeginsWord}
 use Rattle.po_decl_parts.specs.Enumerators.{EnumeratorsRead}
 use Rattle.po_decl_parts.specs.Specifiers.{TagRead, no_tag, tagged, NoTag, Opens, SpecifierRead, storage_class, inline_word, qualifier, type_word, typedef_name, struct_tag, enum_tag, enum_body, SpecifierStands, IsSpecifierWord, by_storage_class, by_inline, by_qualifier, by_type}
-use Rattle.po_decl_parts.proofs.Classes.{class_word, class_qualifier, class_type_word, class_struct, class_enum, class_storage, class_inline, class_name}
-use Rattle.po_decl_parts.proofs.Standing.{same_word}
+use Rattle.po_exp_parts.proofs.Classes.{class_word, class_qualifier, class_type_word, class_struct, class_enum, class_storage, class_inline, class_name}
+use Rattle.po_exp_parts.proofs.SameSigns.{same_word}
 use Rattle.po_decl_parts.proofs.Listed.{items_along}
 
 -- a brace is no word

@@ -1,10 +1,5 @@
-pub mod Leading
-pub mod Standing
-pub mod Ends
-pub mod Classes
 pub mod Naming
 pub mod Endings
-pub mod Starred
 pub mod Bracketed
 pub mod Listed
 pub mod FirstWords

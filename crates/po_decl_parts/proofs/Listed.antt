@@ -6,13 +6,12 @@ use Rattle.po_tree.specs.declared.expression.Exp.{Exp}
 use Rattle.po_tree.specs.Signs.{Sign, word, comma, equals, brace_end}
 use Rattle.po_tree.specs.Declarations.{without}
 use Rattle.po_tree.specs.Words.{IsName}
-use Rattle.po_exp_read.specs.OneSpecifier.{BeginsName}
-use Rattle.po_exp_read.specs.TypeWords.{Begins}
+use Rattle.po_exp_parts.specs.Places.{BeginsName, Begins}
 use Rattle.po_decl_parts.specs.Constants.{ConstantStands}
 use Rattle.po_decl_parts.specs.Enumerators.{EnumeratorRead, plain, valued, EnumeratorsRead, last, last_comma, further}
-use Rattle.po_decl_parts.proofs.Standing.{same_word}
+use Rattle.po_exp_parts.proofs.SameSigns.{same_word}
 use Rattle.po_decl_parts.proofs.Endings.{constant_same}
-use Rattle.po_decl_parts.proofs.Leading.{Leads}
+use Rattle.po_exp_parts.proofs.Leading.{Leads}
 
 -- what is known behind the brace that closes enumerators
 pub record Closed : Type 0 where

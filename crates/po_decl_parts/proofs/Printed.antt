@@ -1,8 +1,7 @@
 -- What is read is well formed and printed, and what is printed is read.
 use Rattle.std.proofs.Common.{◌≡◌, ◌∙◌, ℕ, ◌≤◌, List, [], ◌∷◌, ◌++◌, map, flat_map, Bool, true, false, cond, refl, sym, ap, subst, arith, append_assoc, append-nil, codes}
 use Rattle.std.specs.Prelude.{Contains, All, Option, Some, None}
-use Rattle.std.proofs.lemmas.List.Elements.{All-nil, All-cons, All-head, All-tail}
-use Rattle.po_base.specs.declared.token.TokenKind.TheVariants as k
+use Rattle.std.proofs.lemmas.List.Elements.{All-head, All-tail}
 use Rattle.po_tree.specs.declared.expression.Exp.{Exp}
 use Rattle.po_tree.specs.Signs.{Sign, word, star, bracket, bracket_end, comma, equals, brace_end}
 use Rattle.po_tree.specs.Words.{IsName, qualifiers}
@@ -10,42 +9,15 @@ use Rattle.po_tree.specs.Heights.{height, or_none}
 use Rattle.po_tree.specs.Printing.{flat, prints_star, with_commas, after_commas}
 use Rattle.po_tree.specs.Expressions.{IsExpression, Formed, SizesFormed, no_more_sizes, no_size as formed_no_size, one_size as formed_one_size}
 use Rattle.po_tree.specs.Declarations.{without, Enumerators, no_more_items, item as plain_item, valued_item}
-use Rattle.po_exp_read.specs.Longest.{at_comma as comma_ends, at_brace as brace_ends}
-use Rattle.po_exp_read.specs.TypeWords.{Begins}
-use Rattle.po_exp_read.specs.Places.{sizes_height}
-use Rattle.po_decl_parts.specs.Stars.{BeginsQualifier, QualifiersRead, no_qualifier, one_qualifier, StarsRead, no_star, one_star}
+use Rattle.po_exp_parts.specs.Places.{at_comma as comma_ends, at_brace as brace_ends, Begins, BeginsQualifier}
+use Rattle.po_exp_read.specs.Enclosed.{sizes_height}
+use Rattle.po_exp_parts.specs.Stars.{StarsRead, no_star, one_star}
+use Rattle.po_exp_parts.proofs.StarsPrinted.{words_sound, words_complete, stars_sound, stars_begin}
 use Rattle.po_decl_parts.specs.Printed.{NoQualifierBehind, StarsPrinted, flat_sizes, SizesPrinted, EnumeratorsPrinted}
 use Rattle.po_decl_parts.specs.Sizes.{SizesRead, sizes_end, no_size, one_size}
 use Rattle.po_decl_parts.specs.Enumerators.{EnumeratorRead, plain, valued, EnumeratorsRead, last, last_comma, further, flat_enumerator, flat_enumerators, enumerators_height}
 
--- qualifiers and stars
-
-pub words_sound : {ts us : List Sign} {words : List (List ℕ)} → QualifiersRead ts words us → All (Contains qualifiers) words × (ts ≡ map word words ++ us) × (BeginsQualifier us → ⊥)
-words_sound (no_qualifier ts ends) = (All-nil (Contains qualifiers), refl, ends)
-words_sound (one_qualifier text rest ts us is read) =
-    let p = words_sound read in
-    (All-cons (Contains qualifiers) text rest is p.0, ap (λ v. word text ∷ v) p.1, p.2)
-
-pub words_complete : (words : List (List ℕ)) (rest : List Sign) → All (Contains qualifiers) words → (BeginsQualifier rest → ⊥) → QualifiersRead (map word words ++ rest) words rest
-words_complete [] rest all ends = no_qualifier rest ends
-words_complete (text ∷ words) rest all ends =
-    one_qualifier text words _ rest (All-head (Contains qualifiers) text words all) (words_complete words rest (All-tail (Contains qualifiers) text words all) ends)
-
-pub stars_sound : {ts us : List Sign} {stars : List (List (List ℕ))} → StarsRead ts stars us →
-    All (All (Contains qualifiers)) stars × (ts ≡ flat_map prints_star stars ++ us) × (Begins star us → ⊥)
-stars_sound (no_star ts ends) = (All-nil (All (Contains qualifiers)), refl, ends)
-stars_sound (one_star words stars ts us vs read rest) =
-    let p = words_sound read in
-    let q = stars_sound rest in (
-      All-cons (All (Contains qualifiers)) words stars p.0 q.0,
-      ap (λ v. star ∷ v) (p.1 ∙ ap (λ v. map word words ++ v) q.1 ∙ sym (append_assoc (map word words) (flat_map prints_star stars) vs)),
-      q.2,
-    )
-
--- stars begin with no qualifier
-stars_begin : (stars : List (List (List ℕ))) (rest : List Sign) → (BeginsQualifier rest → ⊥) → BeginsQualifier (flat_map prints_star stars ++ rest) → ⊥
-stars_begin [] rest ends q = ends q
-stars_begin (words ∷ stars) rest ends q = let kinds : k.Punct ≡ k.Word = q.0 in cc
+-- stars
 
 behind_last : (stars : List (List (List ℕ))) (us vs : List Sign) → StarsRead us stars vs → (BeginsQualifier us → ⊥) → BeginsQualifier vs → ⊥
 behind_last stars us vs (no_star ts ends) none q = none q

@@ -12,7 +12,7 @@ use Rattle.po_tree.specs.Layers.{flat_specifier-Word, flat_specifier-Named, flat
 use Rattle.po_tree.specs.Expressions.{Typed, untyped, by_words, by_name}
 use Rattle.po_tree.specs.Declarations as de
 use Rattle.po_tree.specs.Declarations.{Specs, IsTag}
-use Rattle.po_exp_read.specs.TypeWords.{Begins}
+use Rattle.po_exp_parts.specs.Places.{Begins}
 use Rattle.po_decl_parts.specs.Enumerators.{flat_enumerator, flat_enumerators, enumerators_height}
 use Rattle.po_decl_parts.specs.Printed.{SpecifierPrinted, BeginsSpecifiers, HasMembers}
 use Rattle.po_decl_parts.specs.Specifiers.{TagRead, no_tag, tagged, SpecifierStands, SpecifierRead, storage_class, inline_word, qualifier, type_word, typedef_name, struct_tag, enum_tag, enum_body}

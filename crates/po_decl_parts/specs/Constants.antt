@@ -1,13 +1,9 @@
 -- Constants before an end, as a size or the value of an enumerator is (C99 6.6).
-use Rattle.std.specs.Prelude.{ℕ, List, [], ◌∷◌}
+use Rattle.std.specs.Prelude.{ℕ, List}
 use Rattle.po_tree.specs.declared.expression.Exp.{Exp}
 use Rattle.po_tree.specs.Signs.{Sign}
-use Rattle.po_exp_read.specs.Longest.{StandsAt, IsEnd}
-
--- first comes what ends a constant, as a comma, a semicolon or a closing bracket
-abbrev pub BeginsEnd : List Sign → Type 0
-BeginsEnd [] = ⊥
-BeginsEnd (sign ∷ signs) = IsEnd sign
+use Rattle.po_exp_read.specs.Longest.{StandsAt}
+use Rattle.po_exp_parts.specs.Places.{BeginsEnd}
 
 -- x is a conditional expression, where `types` are the typedef names in force; the tokens are those that it prints and then these, which
 -- begin with an end

@@ -6,7 +6,7 @@ use Rattle.po_tree.specs.Words.{IsName}
 use Rattle.po_tree.specs.Printing.{flat, optional, with_commas}
 use Rattle.po_tree.specs.Heights.{height, greatest, or_none}
 use Rattle.po_tree.specs.Declarations.{without}
-use Rattle.po_exp_read.specs.TypeWords.{Begins}
+use Rattle.po_exp_parts.specs.Places.{Begins}
 use Rattle.po_decl_parts.specs.Constants.{ConstantStands}
 
 -- one enumerator, with its value where one is written: it hides a typedef name from its own end on

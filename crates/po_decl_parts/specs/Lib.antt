@@ -1,5 +1,4 @@
 pub mod Constants
-pub mod Stars
 pub mod Sizes
 pub mod Enumerators
 pub mod Specifiers

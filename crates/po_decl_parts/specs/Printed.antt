@@ -9,11 +9,10 @@ use Rattle.po_tree.specs.Printing.{flat, flat_specifier, prints_star, in_bracket
 use Rattle.po_tree.specs.Heights.{specifier_height}
 use Rattle.po_tree.specs.Expressions.{Typed, SizesFormed}
 use Rattle.po_tree.specs.Declarations.{AreStars, Enumerators, Specs}
-use Rattle.po_exp_read.specs.Places.{sizes_height}
-use Rattle.po_exp_read.specs.TypeWords.{Begins}
+use Rattle.po_exp_read.specs.Enclosed.{sizes_height}
+use Rattle.po_exp_parts.specs.Places.{Begins, BeginsQualifier}
 use Rattle.po_decl_parts.specs.Enumerators.{flat_enumerators, enumerators_height}
 use Rattle.po_decl_parts.specs.Specifiers.{SpecifierStands}
-use Rattle.po_decl_parts.specs.Stars.{BeginsQualifier}
 
 -- no qualifier stands behind the last star, where there is one
 abbrev pub NoQualifierBehind : List (List (List ℕ)) → List Sign → Type 0

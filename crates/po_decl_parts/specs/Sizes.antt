@@ -3,7 +3,7 @@ use Rattle.std.specs.Prelude.{ℕ, List, [], ◌∷◌, Option, Some, None}
 use Rattle.po_tree.specs.declared.expression.Exp.{Exp}
 use Rattle.po_tree.specs.Signs.{Sign, bracket, bracket_end}
 use Rattle.po_exp_read.specs.Longest.{StandsAt}
-use Rattle.po_exp_read.specs.TypeWords.{Begins}
+use Rattle.po_exp_parts.specs.Places.{Begins}
 
 -- SizesRead types ts sizes us: these are all sizes at the front of ts, where `types` are the typedef names in force, and us are left
 pub data SizesRead (types : List (List ℕ)) : List Sign → List (Option Exp) → List Sign → Type 0 where

@@ -6,20 +6,12 @@ use Rattle.po_tree.specs.declared.expression.Specifier.TheVariants as sp
 use Rattle.po_tree.specs.Signs.{Sign, word, brace}
 use Rattle.po_tree.specs.Words.{IsName, storage_classes, type_words, qualifiers}
 use Rattle.po_tree.specs.Expressions.{Typed, untyped, by_words, by_name, TakesWord}
-use Rattle.po_exp_read.specs.TypeWords.{Begins}
-use Rattle.po_decl_parts.specs.declared.specifiers.Seen.{Seen}
-use Rattle.po_decl_parts.specs.declared.specifiers.Seen.TheVariants as seen
+use Rattle.po_exp_parts.specs.Places.{Begins, signs_between}
+use Rattle.po_exp_parts.specs.Seen.{typed}
 use Rattle.po_base.specs.declared.token.Token.{Token}
 use Rattle.po_tree.specs.NameSets.{AreSame}
-use Rattle.po_exp_read.specs.Longest.{signs_between}
 use Rattle.po_decl_parts.specs.declared.specifiers.Found.{Found}
 use Rattle.po_decl_parts.specs.Enumerators.{EnumeratorsRead}
-
--- the type specifiers that were seen
-abbrev pub typed : Seen → Typed
-typed seen.Nothing = untyped
-typed seen.Words = by_words
-typed seen.Name = by_name
 
 -- a tag, where one is written before this brace; us are behind the brace
 pub data TagRead (ts : List Sign) : Option (List ℕ) → List Sign → Type 0 where

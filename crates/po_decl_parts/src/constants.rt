@@ -1,11 +1,10 @@
-ghost use Rattle.std.specs.Prelude.{ℕ, ◌≤◌, length, IfOk, IfSome, IfNone};
-ghost use Rattle.std.specs.Prelude.{List as Sequence};
+ghost use Rattle.std.specs.Prelude.{ℕ, ◌≤◌, length, IfOk, IfSome, IfNone, List as Sequence};
 ghost use Rattle.po_tree.specs.NameSets.{AreSame};
-ghost use Rattle.po_exp_read.specs.Longest.{signs_between};
+ghost use Rattle.po_exp_parts.specs.Places.{signs_between};
 ghost use Rattle.po_decl_parts.specs.Constants.{ConstantStands};
 
-use crate::places::ends;
 use po_base::{Memory, Tokens};
+use po_exp_parts::ranges::ends;
 use po_exp_read::{Level, read_exp_at};
 use po_tree::{Exp, Names};
 use std::alloc::Global;

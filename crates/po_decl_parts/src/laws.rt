@@ -1,5 +1,4 @@
-ghost use Rattle.std.specs.Prelude.{ℕ, ◌≡◌, ◌≤◌, ◌∷◌, ◌++◌, ◌↔◌, Bool, Option as Maybe};
-ghost use Rattle.std.specs.Prelude.{List as Sequence};
+ghost use Rattle.std.specs.Prelude.{ℕ, ◌≡◌, ◌≤◌, ◌∷◌, ◌++◌, ◌↔◌, Bool, Option as Maybe, List as Sequence};
 ghost use Rattle.po_tree.specs.declared.expression.Exp.{Exp as Tree};
 ghost use Rattle.po_tree.specs.declared.expression.Specifier.{Specifier as Spec};
 ghost use Rattle.po_tree.specs.Expressions.{Typed};
@@ -7,12 +6,12 @@ ghost use Rattle.po_tree.specs.Declarations.{Specs};
 ghost use Rattle.po_tree.specs.Heights.{specifier_height};
 ghost use Rattle.po_tree.specs.Printing.{flat_specifier};
 ghost use Rattle.po_tree.specs.Signs.{Sign, brace};
-ghost use Rattle.po_exp_read.specs.TypeWords.{Begins};
+ghost use Rattle.po_exp_parts.specs.Places.{Begins};
 ghost use Rattle.po_decl_parts.specs.Enumerators.{EnumeratorsRead};
 ghost use Rattle.po_decl_parts.specs.Printed.{StarsPrinted, SizesPrinted, EnumeratorsPrinted, SpecifierPrinted, BeginsSpecifiers, HasMembers};
 ghost use Rattle.po_decl_parts.specs.Sizes.{SizesRead};
 ghost use Rattle.po_decl_parts.specs.Specifiers.{SpecifierStands};
-ghost use Rattle.po_decl_parts.specs.Stars.{StarsRead};
+ghost use Rattle.po_exp_parts.specs.Stars.{StarsRead};
 
 /// Stars are read exactly where they are well formed, printed, and all that stand there; of two readings one is the other.
 pub fn stars_are_all_stars()

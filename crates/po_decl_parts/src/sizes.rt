@@ -1,12 +1,11 @@
-ghost use Rattle.std.specs.Prelude.{ℕ, ◌≤◌, length, IfOk, IfSome, IfNone};
-ghost use Rattle.std.specs.Prelude.{List as Sequence};
+ghost use Rattle.std.specs.Prelude.{ℕ, ◌≤◌, length, IfOk, IfSome, IfNone, List as Sequence};
 ghost use Rattle.po_tree.specs.NameSets.{AreSame};
-ghost use Rattle.po_exp_read.specs.Longest.{signs_between};
+ghost use Rattle.po_exp_parts.specs.Places.{signs_between};
 ghost use Rattle.po_decl_parts.specs.Sizes.{SizesRead};
 
 use crate::constants::constant_at;
-use crate::places::stands;
 use po_base::{List, Memory, Tokens};
+use po_exp_parts::ranges::stands;
 use po_tree::{Exp, Names};
 use std::alloc::Global;
 

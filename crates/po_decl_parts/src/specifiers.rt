@@ -1,31 +1,21 @@
-ghost use Rattle.std.specs.Prelude.{ℕ, Bool, ◌≡◌, ◌≤◌, ◌<◌, ◌+◌, ◌∷◌, ◌↔◌, codes, length, IsTrue, Contains, IfOk, IfSome, IfNone, MatchOption, OnSome};
-ghost use Rattle.std.specs.Prelude.{List as Sequence};
+ghost use Rattle.std.specs.Prelude.{ℕ, Bool, ◌≡◌, ◌≤◌, ◌<◌, ◌+◌, ◌∷◌, ◌↔◌, codes, length, IsTrue, IfOk, IfSome, IfNone, MatchOption, OnSome, List as Sequence};
 ghost use Rattle.po_tree.specs.declared.expression.Specifier.TheVariants as sp;
 ghost use Rattle.po_tree.specs.Words.{IsName};
-ghost use Rattle.po_tree.specs.Expressions.{untyped, TakesWord};
+ghost use Rattle.po_tree.specs.Expressions.{untyped};
 ghost use Rattle.po_tree.specs.NameSets.{AreSame};
-ghost use Rattle.po_exp_read.specs.Longest.{signs_between};
+ghost use Rattle.po_exp_parts.specs.Places.{signs_between, Begins};
 ghost use Rattle.po_tree.specs.Signs.{word, brace};
-ghost use Rattle.po_exp_read.specs.TypeWords.{Begins};
-ghost use Rattle.po_decl_parts.specs.Specifiers.{typed, TagRead, NoTag, Opens, SpecifierStands, IsSpecifierWord, FoundBehind, NoneBehind, NoSpecifier};
+ghost use Rattle.po_exp_parts.specs.Seen.{typed};
+ghost use Rattle.po_decl_parts.specs.Specifiers.{TagRead, NoTag, Opens, SpecifierStands, IsSpecifierWord, FoundBehind, NoneBehind, NoSpecifier};
 
 use crate::enumerators::enumerators_at;
-use crate::places::{name_at, stands, word_at};
-use crate::words::{is_name, is_qualifier, is_storage_class, is_type_word};
 use po_base::{Memory, Text, Tokens};
+use po_exp_parts::ranges::{name_at, stands, word_at};
+use po_exp_parts::seen::{Seen, is_untyped, takes_word};
+use po_exp_parts::type_words::is_type_name;
+use po_exp_parts::words::{is_qualifier, is_storage_class, is_type_word};
 use po_tree::{Names, Specifier};
 use std::alloc::Global;
-
-/// The type specifiers that stand before a place among specifiers.
-#[derive(Clone, Copy)]
-pub enum Seen {
-    /// None.
-    Nothing,
-    /// Only words of types.
-    Words,
-    /// A struct, an enumeration or a typedef name.
-    Name,
-}
 
 /// A specifier that was found, and what may follow it.
 #[derive(Drop)]
@@ -39,43 +29,11 @@ pub struct Found {
     pub end: u32,
 }
 
-/// Whether a word of a type may follow such specifiers.
-fn takes_word(seen: Seen) -> bool
-    ensures { IsTrue result ↔ TakesWord (typed seen) }
-{
-    match seen {
-        Seen::Nothing => true,
-        Seen::Words => true,
-        Seen::Name => false,
-    }
-}
-
-/// Whether there is no type specifier yet.
-pub(crate) fn is_untyped(seen: Seen) -> bool
-    ensures { IsTrue result ↔ (typed seen ≡ untyped) }
-{
-    match seen {
-        Seen::Nothing => true,
-        Seen::Words => false,
-        Seen::Name => false,
-    }
-}
-
 /// Whether a word is this keyword.
 fn is_word(text: &Text, keyword: &[u8]) -> bool
     ensures { IsTrue result ↔ (text.now ≡ keyword.now) }
 {
     text.bytes() == keyword
-}
-
-/// Whether a word is a typedef name in force.
-fn is_type_name(text: &Text, names: &Names) -> bool
-    ensures { IsTrue result ↔ (IsName text.now × Contains names.now.typedefs text.now) }
-{
-    if !is_name(text.bytes()) {
-        return false;
-    }
-    names.is_type(text)
 }
 
 /// A specifier of one word.

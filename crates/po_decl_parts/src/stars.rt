@@ -1,49 +1,13 @@
-ghost use Rattle.std.specs.Prelude.{◌≡◌, ◌≤◌, ◌<◌, ◌+◌, ◌∷◌, length, Contains, IfOk, MatchOption, OnSome};
-ghost use Rattle.po_tree.specs.Signs.{word};
-ghost use Rattle.po_tree.specs.Words.{qualifiers};
-ghost use Rattle.po_exp_read.specs.Longest.{signs_between};
-ghost use Rattle.po_decl_parts.specs.Stars.{BeginsQualifier, QualifiersRead, StarsRead};
+ghost use Rattle.std.specs.Prelude.{◌≤◌, length, IfOk};
+ghost use Rattle.po_exp_parts.specs.Places.{signs_between};
+ghost use Rattle.po_exp_parts.specs.Stars.{StarsRead};
 
-use crate::places::{stands, word_at};
-use crate::words::is_qualifier;
 use po_base::{List, Memory, Text, Tokens};
+use po_exp_parts::stars;
 use std::alloc::Global;
 
-/// The qualifier at a place before `to`, where one stands there.
-fn qualifier_at(tokens: &Tokens, at: u32, to: u32) -> Option<&Text>
-    ensures first { MatchOption result (BeginsQualifier (signs_between tokens.now.list at to) → ⊥) (λ text. Contains qualifiers text.now × (signs_between tokens.now.list at to ≡ word text.now ∷ signs_between tokens.now.list (at + 1) to)) }
-    ensures within { OnSome result ((at < to) × (at < length tokens.now.list)) }
-{
-    let Some(text) = word_at(tokens, at, to) else {
-        return None;
-    };
-    if !is_qualifier(text.bytes()) {
-        return None;
-    }
-    Some(text)
-}
-
-/// All qualifiers at a place. Time is linear in them.
-fn qualifiers_at(
-    alloc: Global,
-    tokens: &Tokens,
-    at: u32,
-    to: u32,
-) -> Result<(List<Text>, u32), Memory>
-    ensures found { IfOk result (λ p. QualifiersRead (signs_between tokens.now.list at to) p.0 (signs_between tokens.now.list p.1 to)) }
-    ensures after { IfOk result (λ p. at ≤ p.1) }
-    ensures within { at ≤ to → at ≤ length tokens.now.list → IfOk result (λ p. (p.1 ≤ to) × (p.1 ≤ length tokens.now.list)) }
-{
-    let mut words = List::new(alloc);
-    let mut next = at;
-    while let Some(text) = qualifier_at(tokens, next, to) {
-        words.push(text.share()?)?;
-        next += 1;
-    }
-    Ok((words, next))
-}
-
-/// All stars at a place, each with all qualifiers behind it (C99 6.7.5.1), and the place behind them. Time is linear in them.
+/// All stars at a place, each with all qualifiers behind it (C99 6.7.5.1), and the place behind them. Time is linear in them. `Memory`
+/// where memory is refused.
 pub fn stars_at(
     alloc: Global,
     tokens: &Tokens,
@@ -54,12 +18,8 @@ pub fn stars_at(
     ensures after { IfOk result (λ p. at ≤ p.1) }
     ensures within { at ≤ to → at ≤ length tokens.now.list → IfOk result (λ p. (p.1 ≤ to) × (p.1 ≤ length tokens.now.list)) }
 {
-    let mut stars = List::new(alloc);
-    let mut next = at;
-    while stands(tokens, next, to, b"*") {
-        let (words, end) = qualifiers_at(alloc, tokens, next + 1, to)?;
-        stars.push(words)?;
-        next = end;
-    }
-    Ok((stars, next))
+    let all = tokens.list.as_slice();
+    let last = (to as usize).min(all.len());
+    let (stars, end) = stars::stars_at(alloc, &all[..last], at as usize)?;
+    Ok((stars, end as u32))
 }

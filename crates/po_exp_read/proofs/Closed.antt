@@ -1,15 +1,16 @@
 -- Expressions that a token closes, and what has two parts.
 use Rattle.std.proofs.Common.{◌≡◌, ℕ, ◌≤◌, List, ◌∷◌, length, ap, sym, refl, subst, arith}
 use Rattle.po_tree.specs.declared.expression.Exp.{Exp}
-use Rattle.po_exp_read.specs.declared.continuation.Continuation.TheVariants as c
-use Rattle.po_exp_read.specs.declared.found.Tail.{Tail}
-use Rattle.po_exp_read.specs.declared.found.Tail.TheVariants as t
+use Rattle.po_exp_parts.specs.declared.continuation.Continuation.TheVariants as c
+use Rattle.po_exp_parts.specs.declared.found.Tail.{Tail}
+use Rattle.po_exp_parts.specs.declared.found.Tail.TheVariants as t
 use Rattle.po_tree.specs.Signs.{Sign, colon}
 use Rattle.po_tree.specs.Heights.{height}
-use Rattle.po_exp_read.specs.Continuing.{GoesOn, tail_height}
-use Rattle.po_exp_read.specs.TypeWords.{Begins}
-use Rattle.po_exp_read.specs.Reading.{Reads, Follows, chosen}
-use Rattle.po_exp_read.specs.Places.{IsBest, IsNone, StandsClosed, Closes}
+use Rattle.po_exp_parts.specs.Continuing.{GoesOn, tail_height}
+use Rattle.po_exp_parts.specs.Places.{Begins}
+use Rattle.po_exp_parts.specs.Reading.{Reads, Follows, chosen}
+use Rattle.po_exp_parts.specs.Finding.{IsBest, IsNone}
+use Rattle.po_exp_read.specs.Enclosed.{StandsClosed, Closes}
 use Rattle.po_exp_read.proofs.Comparing.{Compared, same, longer, shorter, ends_same, goes_on-colon}
 use Rattle.po_exp_read.proofs.Compared.{reads_compared}
 

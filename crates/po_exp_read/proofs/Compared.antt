@@ -8,25 +8,24 @@ use Rattle.po_tree.specs.declared.expression.TypeName.{TypeName}
 use Rattle.po_tree.specs.declared.expression.Specifier.{Specifier}
 use Rattle.po_tree.specs.declared.expression.Suffix.{Suffix}
 use Rattle.po_tree.specs.declared.expression.Suffix.TheVariants as su
-use Rattle.po_exp_read.specs.declared.continuation.Continuation.{Continuation}
-use Rattle.po_exp_read.specs.declared.found.Tail.{Tail}
-use Rattle.po_exp_read.specs.declared.found.Tail.TheVariants as t
+use Rattle.po_exp_parts.specs.declared.continuation.Continuation.{Continuation}
+use Rattle.po_exp_parts.specs.declared.found.Tail.{Tail}
+use Rattle.po_exp_parts.specs.declared.found.Tail.TheVariants as t
 use Rattle.po_tree.specs.Signs.{Sign, opening, closing, comma, bracket}
 use Rattle.po_tree.specs.Operators.{prefix_sign, prefixed, least_operand}
 use Rattle.po_tree.specs.Expressions.{IsLeaf, variable, integer, one_character}
-use Rattle.po_exp_read.specs.Continuing.{opens, level_of, grow, GoesOn, by_continuation}
-use Rattle.po_exp_read.specs.TypeWords.{Begins, StarsRead}
-use Rattle.po_exp_read.specs.Reading.{Reads, begun, Operand, leaf, strings, paren, unary, size_of_type, cast, Climbs, stop, more, Follows, joined, chosen, indexed}
-use Rattle.po_exp_read.specs.Reading.{called, selected, stepped, Arguments, no_arguments, arguments, Items, last, further, TypeRead, type_read, SuffixRead, plain}
-use Rattle.po_exp_read.specs.Reading.{arrays, SizesRead, sizes_end, no_size, one_size}
-use Rattle.po_exp_read.proofs.Signing.{opens_same, prefix_same}
-use Rattle.po_exp_read.proofs.TypeWordsSame.{same_word, specs_same, stars_same}
-use Rattle.po_exp_read.proofs.Texts.{same_string, texts_compared}
+use Rattle.po_exp_parts.specs.Continuing.{opens, level_of, grow, GoesOn, by_continuation}
+use Rattle.po_exp_parts.specs.Places.{Begins}
+use Rattle.po_exp_parts.specs.Stars.{StarsRead}
+use Rattle.po_exp_parts.specs.Reading.{Reads, begun, Operand, leaf, strings, paren, unary, size_of_type, cast, Climbs, stop, more, Follows, joined, chosen, indexed, called, selected, stepped, Arguments, no_arguments, arguments, Items, last, further, TypeRead, type_read, SuffixRead, plain, arrays, SizesRead, sizes_end, no_size, one_size}
+use Rattle.po_exp_parts.proofs.Signing.{opens_same, prefix_same}
+use Rattle.po_exp_parts.proofs.SameSigns.{same_word, same_string}
+use Rattle.po_exp_parts.proofs.TypeWordsSame.{specs_same}
+use Rattle.po_exp_parts.proofs.Starred.{stars_same}
+use Rattle.po_exp_read.proofs.Texts.{texts_compared}
 use Rattle.po_exp_read.proofs.Shortening.{climbs_shorten, follows_shorten}
-use Rattle.po_exp_read.proofs.Fronts.{class_of, class_first, class_operand, leaf_told, leaf_most, operand_told, reads_no_bracket_end}
-use Rattle.po_exp_read.proofs.Fronts.{items_no_closing, reads_no_type, type_starts, unary_no_type}
-use Rattle.po_exp_read.proofs.Comparing.{Halts, Compared, same, longer, shorter, halts_stop, halts_unary, halts_joined, halts_chosen, goes_on-lower}
-use Rattle.po_exp_read.proofs.Comparing.{goes_on-closing, goes_on-bracket_end, goes_on-colon, goes_on-comma, ends_same, compared_map}
+use Rattle.po_exp_parts.proofs.Fronts.{class_of, class_first, class_operand, leaf_told, leaf_most, operand_told, reads_no_bracket_end, items_no_closing, reads_no_type, type_starts, unary_no_type}
+use Rattle.po_exp_read.proofs.Comparing.{Halts, Compared, same, longer, shorter, halts_stop, halts_unary, halts_joined, halts_chosen, goes_on-lower, goes_on-closing, goes_on-bracket_end, goes_on-colon, goes_on-comma, ends_same, compared_map}
 
 -- of two operands with their levels
 abbrev pub OperandsCompared : ℕ → Exp → List Sign → ℕ → Exp → List Sign → Type 0

@@ -6,13 +6,13 @@ use Rattle.po_base.specs.declared.operators.Op.TheVariants as op
 use Rattle.po_tree.specs.declared.operator.Infix.{Infix}
 use Rattle.po_tree.specs.declared.operator.Infix.TheVariants as i
 use Rattle.po_tree.specs.declared.expression.Exp.{Exp}
-use Rattle.po_exp_read.specs.declared.continuation.Continuation.{Continuation}
-use Rattle.po_exp_read.specs.declared.continuation.Continuation.TheVariants as c
+use Rattle.po_exp_parts.specs.declared.continuation.Continuation.{Continuation}
+use Rattle.po_exp_parts.specs.declared.continuation.Continuation.TheVariants as c
 use Rattle.po_tree.specs.Signs.{Sign, punct, string, closing, bracket_end, comma, colon}
 use Rattle.po_tree.specs.Operators.{op_level, level, least_right}
-use Rattle.po_exp_read.specs.Continuing.{opens, IsUsed, level_of, least_before, GoesOn, by_continuation, by_string}
-use Rattle.po_exp_read.specs.Reading.{Climbs, stop, more}
-use Rattle.po_exp_read.proofs.Signing.{continuation_of, opens_same, opens_none, opens_string}
+use Rattle.po_exp_parts.specs.Continuing.{opens, IsUsed, level_of, least_before, GoesOn, by_continuation, by_string}
+use Rattle.po_exp_parts.specs.Reading.{Climbs, stop, more}
+use Rattle.po_exp_parts.proofs.Signing.{continuation_of, opens_same, opens_none, opens_string}
 
 -- something stands here that could lengthen an expression of this level, but what has this level can't go on with it
 pub record Halts (m : ℕ) (ts : List Sign) : Type 0 where

@@ -6,15 +6,15 @@ use Rattle.po_tree.specs.declared.expression.Exp.TheVariants as e
 use Rattle.po_tree.specs.declared.expression.TypeName.{TypeName}
 use Rattle.po_tree.specs.declared.expression.Suffix.{Suffix}
 use Rattle.po_tree.specs.declared.expression.Suffix.TheVariants as su
-use Rattle.po_exp_read.specs.declared.continuation.Continuation.TheVariants as c
-use Rattle.po_exp_read.specs.declared.found.Tail.TheVariants as t
+use Rattle.po_exp_parts.specs.declared.continuation.Continuation.TheVariants as c
+use Rattle.po_exp_parts.specs.declared.found.Tail.TheVariants as t
 use Rattle.po_tree.specs.Signs.{Sign, string, opening, closing, bracket, bracket_end, comma, colon, question, star, sizeof}
 use Rattle.po_tree.specs.Operators.{least_right, least_operand, prefixed}
 use Rattle.po_tree.specs.Printing.{flat, flat_type, flat_suffix, flat_specifier, with_commas, after_commas, prints_star}
 use Rattle.po_tree.specs.Layers.{flat-leaf, flat-Str, flat-Paren, flat-Index, flat-Call, flat-Cond, flat-Cast, flat-SizeType, flat-joined, flat-prefixed, flat-postfixed, flat-selected, flat_suffix-Plain, flat_suffix-Arrays, flat_type-parts}
 use Rattle.po_tree.specs.Expressions.{Formed, leaf as formed_leaf, strings as formed_strings, paren as formed_paren, index, call, member, stepped as formed_stepped, unary as formed_unary, size_of_type as formed_size, cast as formed_cast, binary, conditional, AllFormed, no_more, one_more, TypeFormed, type_name, SuffixFormed, plain as formed_plain, arrays as formed_arrays, SizesFormed, no_more_sizes, no_size as formed_no_size, one_size as formed_one_size}
-use Rattle.po_exp_read.specs.TypeWords.{Begins, BeginsWord}
-use Rattle.po_exp_read.specs.Reading.{Reads, begun, leaf, strings, paren, unary, size_of_type, cast, Climbs, stop, more, joined as follows_joined, chosen, indexed, called, selected as follows_selected, stepped, Arguments, no_arguments, arguments, Items, last, further, TypeRead, type_read, SuffixRead, plain, arrays, SizesRead, sizes_end, no_size, one_size}
+use Rattle.po_exp_parts.specs.Places.{Begins, BeginsWord}
+use Rattle.po_exp_parts.specs.Reading.{Reads, begun, leaf, strings, paren, unary, size_of_type, cast, Climbs, stop, more, joined as follows_joined, chosen, indexed, called, selected as follows_selected, stepped, Arguments, no_arguments, arguments, Items, last, further, TypeRead, type_read, SuffixRead, plain, arrays, SizesRead, sizes_end, no_size, one_size}
 use Rattle.po_exp_read.proofs.LevelBounds.{left_high}
 use Rattle.po_exp_read.proofs.Specifiers.{specs_complete, stars_complete, stars_begin}
 use Rattle.po_exp_read.proofs.Sound.{flat_sizes, two_parts}

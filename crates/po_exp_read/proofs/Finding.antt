@@ -1,10 +1,10 @@
 -- What is found of wholes, by what is found of their parts.
 use Rattle.std.proofs.Common.{◌≡◌, ◌≤◌, ◌+◌, ℕ, List, ap, arith}
 use Rattle.po_base.specs.declared.token.Token.{Token}
-use Rattle.po_exp_read.specs.declared.found.Found.{Found}
+use Rattle.po_exp_parts.specs.declared.found.Found.{Found}
 use Rattle.po_tree.specs.Signs.{Sign}
 use Rattle.std.specs.Prelude.{Option, Some, None}
-use Rattle.po_exp_read.specs.Places.{IsBest, IsNone, IsFound, Finds, through}
+use Rattle.po_exp_parts.specs.Finding.{IsBest, IsNone, IsFound, Finds, through}
 
 -- each whole is made of one part, with the same signs left behind it, and is this much higher
 pub record IsMade {A B : Type 0} (make : A → B) (rise : ℕ) (high : A → ℕ) (Stands : A → List Sign → Type 0) (high_whole : B → ℕ) (Whole : B → List Sign → Type 0) : Type 0 where

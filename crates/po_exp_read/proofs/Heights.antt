@@ -5,14 +5,14 @@ use Rattle.std.proofs.Math.Nat.{max-zero, zero-max, le-max_left}
 use Rattle.po_tree.specs.declared.expression.Exp.{Exp}
 use Rattle.po_tree.specs.declared.expression.Specifier.{Specifier}
 use Rattle.po_tree.specs.declared.expression.Suffix.{Suffix}
-use Rattle.po_exp_read.specs.declared.found.Tail.{Tail}
-use Rattle.po_exp_read.specs.declared.found.Tail.TheVariants as t
+use Rattle.po_exp_parts.specs.declared.found.Tail.{Tail}
+use Rattle.po_exp_parts.specs.declared.found.Tail.TheVariants as t
 use Rattle.po_tree.specs.Signs.{Sign}
 use Rattle.po_tree.specs.Heights.{height, specifier_height, suffix_height, type_height, greatest}
 use Rattle.po_tree.specs.Layers.{height-leaf, height-Str, height-Paren, height-Index, height-Call, height-Cond, height-Cast, height-SizeType, height-joined, height-prefixed, height-postfixed, height-selected, specifier_height-Word, specifier_height-Named, specifier_height-struct, specifier_height-enum, type_height-parts}
 use Rattle.po_tree.specs.Expressions.{Typed, TypeSpecs, no_more_specs, qualifier, type_word, typedef_name, struct_tag, enum_tag}
-use Rattle.po_exp_read.specs.Continuing.{grow, tail_height}
-use Rattle.po_exp_read.specs.Reading.{Reads, begun, Operand, leaf, strings, paren, unary, size_of_type, cast, Climbs, stop, more}
+use Rattle.po_exp_parts.specs.Continuing.{grow, tail_height}
+use Rattle.po_exp_parts.specs.Reading.{Reads, begun, Operand, leaf, strings, paren, unary, size_of_type, cast, Climbs, stop, more}
 
 -- an operand with what stands behind it is one higher than the higher of both
 pub height-grow : (x : Exp) (tail : Tail) → height (grow x tail) ≡ suc (max (height x) (tail_height tail))

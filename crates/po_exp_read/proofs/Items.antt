@@ -4,14 +4,15 @@ use Rattle.std.specs.Prelude.{max}
 use Rattle.po_tree.specs.declared.expression.Exp.{Exp}
 use Rattle.po_tree.specs.Signs.{Sign, closing, comma}
 use Rattle.po_tree.specs.Heights.{height}
-use Rattle.po_exp_read.specs.Continuing.{GoesOn}
-use Rattle.po_exp_read.specs.TypeWords.{Begins}
-use Rattle.po_exp_read.specs.Reading.{Reads, Arguments, no_arguments, arguments, Items, last, further}
-use Rattle.po_exp_read.specs.Places.{IsBest, IsNone, list_height}
+use Rattle.po_exp_parts.specs.Continuing.{GoesOn}
+use Rattle.po_exp_parts.specs.Places.{Begins}
+use Rattle.po_exp_parts.specs.Reading.{Reads, Arguments, no_arguments, arguments, Items, last, further}
+use Rattle.po_exp_parts.specs.Finding.{IsBest, IsNone}
+use Rattle.po_exp_read.specs.Enclosed.{list_height}
 use Rattle.po_exp_read.proofs.Comparing.{Compared, same, longer, shorter, ends_same, goes_on-closing, goes_on-comma}
 use Rattle.po_exp_read.proofs.Compared.{reads_compared}
-use Rattle.po_exp_read.proofs.Fronts.{items_no_closing}
-use Rattle.po_exp_read.proofs.Leading.{Leads}
+use Rattle.po_exp_parts.proofs.Fronts.{items_no_closing}
+use Rattle.po_exp_parts.proofs.Leading.{Leads}
 use Rattle.po_exp_read.proofs.Finding.{IsMade}
 
 -- arguments of at most this height

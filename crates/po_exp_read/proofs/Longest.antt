@@ -4,12 +4,13 @@ use Rattle.po_tree.specs.declared.expression.Exp.{Exp}
 use Rattle.po_tree.specs.Signs.{Sign, semicolon, brace_end}
 use Rattle.po_tree.specs.Heights.{height}
 use Rattle.po_tree.specs.Printing.{flat}
-use Rattle.po_exp_read.specs.Longest.{StandsBefore, StandsAt, IsLongest, IsLongestAt, NothingStands, NothingStandsAt, IsEnd, at_comma, at_semicolon, at_bracket, at_brace, at_colon, at_parenthesis}
-use Rattle.po_exp_read.specs.Places.{IsBest, IsNone}
-use Rattle.po_exp_read.specs.Reading.{Reads, stop}
+use Rattle.po_exp_read.specs.Longest.{StandsBefore, StandsAt, IsLongest, IsLongestAt, NothingStands, NothingStandsAt}
+use Rattle.po_exp_parts.specs.Places.{IsEnd, at_comma, at_semicolon, at_bracket, at_brace, at_colon, at_parenthesis}
+use Rattle.po_exp_parts.specs.Finding.{IsBest, IsNone}
+use Rattle.po_exp_parts.specs.Reading.{Reads, stop}
 use Rattle.po_exp_read.proofs.Sound.{reads_sound}
 use Rattle.po_exp_read.proofs.Complete.{reads_complete}
-use Rattle.po_exp_read.specs.Continuing.{GoesOn}
+use Rattle.po_exp_parts.specs.Continuing.{GoesOn}
 use Rattle.po_exp_read.proofs.Comparing.{ends_same, goes_on-none, goes_on-comma, goes_on-bracket_end, goes_on-colon, goes_on-closing, punct_string}
 use Rattle.po_exp_read.proofs.Compared.{reads_compared}
 use Rattle.po_exp_read.proofs.Single.{reads_one}

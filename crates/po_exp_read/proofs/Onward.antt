@@ -2,16 +2,16 @@
 use Rattle.std.proofs.Common.{◌≡◌, ℕ, suc, ◌-◌, ◌≤◌, List, ◌∷◌, length, ap, sym, ◌∙◌, refl, subst, arith, ◌⊎◌, inl, inr}
 use Rattle.std.specs.Prelude.{max}
 use Rattle.po_tree.specs.declared.expression.Exp.{Exp}
-use Rattle.po_exp_read.specs.declared.continuation.Continuation.{Continuation}
-use Rattle.po_exp_read.specs.declared.found.Tail.{Tail}
-use Rattle.po_exp_read.specs.declared.found.Leveled.{Leveled}
+use Rattle.po_exp_parts.specs.declared.continuation.Continuation.{Continuation}
+use Rattle.po_exp_parts.specs.declared.found.Tail.{Tail}
+use Rattle.po_exp_parts.specs.declared.found.Leveled.{Leveled}
 use Rattle.po_tree.specs.Signs.{Sign}
 use Rattle.po_tree.specs.Heights.{height}
-use Rattle.po_exp_read.specs.Continuing.{opens, IsUsed, level_of, grow, tail_height}
-use Rattle.po_exp_read.specs.Reading.{Reads, begun, Climbs, stop, more, Follows}
-use Rattle.po_exp_read.specs.Places.{IsBest, IsNone, operand_height, StandsAsOperand, Continues, leveled}
+use Rattle.po_exp_parts.specs.Continuing.{opens, IsUsed, level_of, grow, tail_height}
+use Rattle.po_exp_parts.specs.Reading.{Reads, begun, Climbs, stop, more, Follows}
+use Rattle.po_exp_parts.specs.Finding.{IsBest, IsNone, operand_height, StandsAsOperand, Continues, leveled}
 use Rattle.po_exp_read.proofs.Heights.{height-grow, climbs_rise}
-use Rattle.po_exp_read.proofs.Signing.{opens_same}
+use Rattle.po_exp_parts.proofs.Signing.{opens_same}
 use Rattle.po_exp_read.proofs.Shortening.{follows_shorten}
 use Rattle.po_exp_read.proofs.Comparing.{Halts, Compared, same, longer, shorter, halts_stop}
 use Rattle.po_exp_read.proofs.Compared.{operands_compared, follows_compared}

@@ -7,22 +7,24 @@ use Rattle.po_tree.specs.declared.operator.Prefix.TheVariants as p
 use Rattle.po_tree.specs.declared.expression.Exp.{Exp}
 use Rattle.po_tree.specs.declared.expression.Exp.TheVariants as e
 use Rattle.po_tree.specs.declared.expression.TypeName.{TypeName}
-use Rattle.po_exp_read.specs.declared.continuation.Continuation.TheVariants as c
-use Rattle.po_exp_read.specs.declared.found.Leveled.{Leveled}
-use Rattle.po_exp_read.specs.declared.found.Tail.{Tail}
-use Rattle.po_exp_read.specs.declared.found.Tail.TheVariants as t
+use Rattle.po_exp_parts.specs.declared.continuation.Continuation.TheVariants as c
+use Rattle.po_exp_parts.specs.declared.found.Leveled.{Leveled}
+use Rattle.po_exp_parts.specs.declared.found.Tail.{Tail}
+use Rattle.po_exp_parts.specs.declared.found.Tail.TheVariants as t
 use Rattle.po_tree.specs.Signs.{Sign, opening, closing, bracket_end, sizeof}
 use Rattle.po_tree.specs.Operators.{prefix_sign, least_operand, least_right, prefixed}
 use Rattle.po_tree.specs.Heights.{height, type_height}
 use Rattle.po_tree.specs.Layers.{height-Paren, height-prefixed, height-SizeType, height-Cast}
-use Rattle.po_exp_read.specs.Continuing.{tail_height}
+use Rattle.po_exp_parts.specs.Continuing.{tail_height}
 use Rattle.po_base.specs.declared.token.Token.{Token}
-use Rattle.po_exp_read.specs.TypeWords.{Begins, StartsType}
-use Rattle.po_exp_read.specs.Reading.{Reads, Operand, leaf, strings, paren, unary, size_of_type, cast, Follows, joined, indexed, called, stepped, Arguments}
-use Rattle.po_exp_read.specs.Places.{signs_from, IsBest, IsNone, operand_height, list_height, StandsAsOperand, StandsClosed, StandsEnclosed, leveled}
-use Rattle.po_exp_read.proofs.Standing.{stands_first}
-use Rattle.po_exp_read.proofs.Signing.{prefix_same}
-use Rattle.po_exp_read.proofs.Fronts.{class_first, leaf_told, leaf_most, prefix_told, operand_told, reads_no_type, type_starts, unary_no_type}
+use Rattle.po_exp_parts.specs.Places.{Begins, signs_from}
+use Rattle.po_exp_parts.specs.TypeWords.{StartsType}
+use Rattle.po_exp_parts.specs.Reading.{Reads, Operand, leaf, strings, paren, unary, size_of_type, cast, Follows, joined, indexed, called, stepped, Arguments}
+use Rattle.po_exp_parts.specs.Finding.{IsBest, IsNone, operand_height, StandsAsOperand, leveled}
+use Rattle.po_exp_read.specs.Enclosed.{list_height, StandsClosed, StandsEnclosed}
+use Rattle.po_exp_parts.proofs.Standing.{stands_first}
+use Rattle.po_exp_parts.proofs.Signing.{prefix_same}
+use Rattle.po_exp_parts.proofs.Fronts.{class_first, leaf_told, leaf_most, prefix_told, operand_told, reads_no_type, type_starts, unary_no_type}
 use Rattle.po_exp_read.proofs.Compared.{type_same}
 use Rattle.po_exp_read.proofs.Finding.{IsMade}
 

@@ -4,15 +4,13 @@ use Rattle.po_tree.specs.declared.expression.Exp.{Exp}
 use Rattle.po_tree.specs.declared.expression.TypeName.{TypeName}
 use Rattle.po_tree.specs.declared.expression.Specifier.{Specifier}
 use Rattle.po_tree.specs.declared.expression.Suffix.{Suffix}
-use Rattle.po_exp_read.specs.declared.continuation.Continuation.{Continuation}
-use Rattle.po_exp_read.specs.declared.found.Tail.{Tail}
+use Rattle.po_exp_parts.specs.declared.continuation.Continuation.{Continuation}
+use Rattle.po_exp_parts.specs.declared.found.Tail.{Tail}
 use Rattle.po_tree.specs.Signs.{Sign, string}
 use Rattle.po_tree.specs.Expressions.{Typed}
-use Rattle.po_exp_read.specs.TypeWords.{SpecsRead, specs_end, qualifier, type_word, typedef_name, struct_tag, enum_tag, WordsRead, words_end, one_word, StarsRead}
-use Rattle.po_exp_read.specs.TypeWords.{stars_end, one_star}
-use Rattle.po_exp_read.specs.Reading.{Reads, begun, Operand, leaf, strings, paren, unary, size_of_type, cast, Climbs, stop, more, Follows, joined, chosen, indexed}
-use Rattle.po_exp_read.specs.Reading.{called, selected, stepped, Arguments, no_arguments, arguments, Items, last, further, TypeRead, type_read, SuffixRead, plain}
-use Rattle.po_exp_read.specs.Reading.{arrays, SizesRead, sizes_end, no_size, one_size}
+use Rattle.po_exp_parts.specs.Stars.{QualifiersRead, no_qualifier, one_qualifier, StarsRead, no_star, one_star}
+use Rattle.po_exp_parts.specs.TypeWords.{SpecsRead, specs_end, qualifier, type_word, typedef_name, struct_tag, enum_tag}
+use Rattle.po_exp_parts.specs.Reading.{Reads, begun, Operand, leaf, strings, paren, unary, size_of_type, cast, Climbs, stop, more, Follows, joined, chosen, indexed, called, selected, stepped, Arguments, no_arguments, arguments, Items, last, further, TypeRead, type_read, SuffixRead, plain, arrays, SizesRead, sizes_end, no_size, one_size}
 
 specs_shorten : {types : List (List ℕ)} {seen : Typed} {ts us : List Sign} {specs : List Specifier} → SpecsRead types seen ts specs us → length us ≤ length ts
 specs_shorten (specs_end seen ts none) = omega arith
@@ -22,12 +20,12 @@ specs_shorten (typedef_name name rest ts us h g w) = omega (arith, specs_shorten
 specs_shorten (struct_tag tag rest ts us h w) = omega (arith, specs_shorten w)
 specs_shorten (enum_tag tag rest ts us h w) = omega (arith, specs_shorten w)
 
-words_shorten : {ts us : List Sign} {words : List (List ℕ)} → WordsRead ts words us → length us ≤ length ts
-words_shorten (words_end ts none) = omega arith
-words_shorten (one_word text rest ts us h w) = omega (arith, words_shorten w)
+words_shorten : {ts us : List Sign} {words : List (List ℕ)} → QualifiersRead ts words us → length us ≤ length ts
+words_shorten (no_qualifier ts none) = omega arith
+words_shorten (one_qualifier text rest ts us h w) = omega (arith, words_shorten w)
 
 stars_shorten : {ts us : List Sign} {stars : List (List (List ℕ))} → StarsRead ts stars us → length us ≤ length ts
-stars_shorten (stars_end ts none) = omega arith
+stars_shorten (no_star ts none) = omega arith
 stars_shorten (one_star words stars ts us vs w v) = omega (arith, words_shorten w, stars_shorten v)
 
 mutual

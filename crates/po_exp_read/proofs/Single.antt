@@ -2,7 +2,7 @@
 use Rattle.std.proofs.Common.{◌≡◌, ℕ, List, [], length, refl, arith}
 use Rattle.po_tree.specs.declared.expression.Exp.{Exp}
 use Rattle.po_tree.specs.Signs.{Sign}
-use Rattle.po_exp_read.specs.Reading.{Reads}
+use Rattle.po_exp_parts.specs.Reading.{Reads}
 use Rattle.po_exp_read.proofs.Comparing.{Compared, same, longer, shorter}
 use Rattle.po_exp_read.proofs.Compared.{reads_compared}
 

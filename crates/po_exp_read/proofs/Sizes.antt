@@ -9,17 +9,21 @@ use Rattle.po_tree.specs.Signs.{Sign, bracket, bracket_end, closing}
 use Rattle.po_tree.specs.Heights.{height, type_height, suffix_height, or_none}
 use Rattle.po_tree.specs.Expressions.{untyped}
 use Rattle.po_tree.specs.Layers.{suffix_height-Plain, suffix_height-Arrays}
-use Rattle.po_exp_read.specs.TypeWords.{Begins, SpecsRead, StarsRead}
-use Rattle.po_exp_read.specs.Reading.{TypeRead, type_read, SuffixRead, plain, arrays, SizesRead, sizes_end, no_size, one_size}
-use Rattle.po_exp_read.specs.Places.{IsBest, IsNone, sizes_height, StandsClosed, StandsEnclosed, suffix_of, type_of}
+use Rattle.po_exp_parts.specs.Places.{Begins}
+use Rattle.po_exp_parts.specs.Stars.{StarsRead}
+use Rattle.po_exp_parts.specs.TypeWords.{SpecsRead}
+use Rattle.po_exp_parts.specs.Reading.{TypeRead, type_read, SuffixRead, plain, arrays, SizesRead, sizes_end, no_size, one_size}
+use Rattle.po_exp_parts.specs.Finding.{IsBest, IsNone, suffix_of, type_of}
+use Rattle.po_exp_read.specs.Enclosed.{sizes_height, StandsClosed, StandsEnclosed}
 use Rattle.po_exp_read.proofs.Comparing.{goes_on-bracket_end}
-use Rattle.po_exp_read.proofs.Fronts.{reads_no_bracket_end}
+use Rattle.po_exp_parts.proofs.Fronts.{reads_no_bracket_end}
 use Rattle.po_exp_read.proofs.Closed.{closed_same}
 use Rattle.po_exp_read.proofs.Heights.{type_height-suffix}
 use Rattle.po_exp_read.proofs.Specifiers.{specs_sound}
 use Rattle.po_exp_read.proofs.Compared.{sizes_same}
-use Rattle.po_exp_read.proofs.TypeWordsSame.{specs_same, stars_same}
-use Rattle.po_exp_read.proofs.Leading.{Leads, leads_end}
+use Rattle.po_exp_parts.proofs.TypeWordsSame.{specs_same}
+use Rattle.po_exp_parts.proofs.Starred.{stars_same}
+use Rattle.po_exp_parts.proofs.Leading.{Leads, leads_end}
 
 -- sizes of at most this height
 abbrev pub SizesHere : List (List ℕ) → ℕ → List Sign → List (Option Exp) → List Sign → Type 0
@@ -153,13 +157,6 @@ type_found {types = types} {ts = ts} {us = us} {vs = vs} {stars = stars} (spec �
 }
 
 module _ {types : List (List ℕ)} {ts us : List Sign} (specs : List Specifier) (r : SpecsRead types untyped ts specs us) where
-  -- no stars behind the specifiers
-  pub stars_nowhere : (depth : ℕ) → ((stars : List (List (List ℕ))) (vs : List Sign) → StarsRead us stars vs → ⊥) → IsNone type_height (StandsEnclosed types ts) depth
-  stars_nowhere depth none name ws w h =
-      let p = parts_of w in
-      let s = specs_same r p.specs_read in
-      none p.stars p.behind_stars (subst (λ v. StarsRead v p.stars p.behind_stars) (sym s.1) p.stars_read)
-
   module _ {vs : List Sign} (stars : List (List (List ℕ))) (v : StarsRead us stars vs) where
     sizes_of : {name : TypeName} {ws : List Sign} → TypeRead types ts name ws → (sizes : List (Option Exp)) × (name ≡ type_of specs stars sizes) × SizesRead types vs sizes ws × (type_height name ≡ sizes_height sizes)
     sizes_of {ws = ws} w =

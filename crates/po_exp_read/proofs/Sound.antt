@@ -4,17 +4,18 @@ use Rattle.std.specs.Prelude.{Option}
 use Rattle.po_tree.specs.declared.expression.Exp.{Exp}
 use Rattle.po_tree.specs.declared.expression.TypeName.{TypeName}
 use Rattle.po_tree.specs.declared.expression.Suffix.{Suffix}
-use Rattle.po_exp_read.specs.declared.continuation.Continuation.{Continuation}
-use Rattle.po_exp_read.specs.declared.found.Tail.{Tail}
+use Rattle.po_exp_parts.specs.declared.continuation.Continuation.{Continuation}
+use Rattle.po_exp_parts.specs.declared.found.Tail.{Tail}
 use Rattle.po_tree.specs.Signs.{Sign, string, opening, closing, bracket, bracket_end, comma, colon, question, sizeof}
 use Rattle.po_tree.specs.Operators.{infix_sign, prefix_sign}
 use Rattle.po_tree.specs.Printing.{flat, flat_type, flat_suffix, flat_specifier, with_commas, after_commas, in_brackets, optional, prints_star}
 use Rattle.po_tree.specs.Layers.{flat-leaf, flat-Str, flat-Paren, flat-Index, flat-Call, flat-Cond, flat-Cast, flat-SizeType, flat-joined, flat-prefixed, flat-postfixed, flat-selected, flat_suffix-Plain, flat_suffix-Arrays, flat_type-parts}
 use Rattle.po_tree.specs.Expressions.{Formed, leaf as formed_leaf, strings as formed_strings, paren as formed_paren, index, call, member, stepped as formed_stepped, unary as formed_unary, size_of_type as formed_size, cast as formed_cast, binary, conditional, AllFormed, no_more, one_more, TypeFormed, type_name, SuffixFormed, plain as formed_plain, arrays as formed_arrays, SizesFormed, no_more_sizes, no_size as formed_no_size, one_size as formed_one_size}
-use Rattle.po_exp_read.specs.Continuing.{opens, IsUsed, level_of, least_before, grow}
-use Rattle.po_exp_read.specs.Reading.{Reads, begun, Operand, leaf, strings, paren, unary, size_of_type, cast, Climbs, stop, more, Follows, joined as follows_joined, chosen, indexed, called, selected as follows_selected, stepped, Arguments, no_arguments, arguments, Items, last, further, TypeRead, type_read, SuffixRead, plain, arrays, SizesRead, sizes_end, no_size, one_size}
+use Rattle.po_exp_parts.specs.Continuing.{opens, IsUsed, level_of, least_before, grow}
+use Rattle.po_exp_parts.specs.Reading.{Reads, begun, Operand, leaf, strings, paren, unary, size_of_type, cast, Climbs, stop, more, Follows, joined as follows_joined, chosen, indexed, called, selected as follows_selected, stepped, Arguments, no_arguments, arguments, Items, last, further, TypeRead, type_read, SuffixRead, plain, arrays, SizesRead, sizes_end, no_size, one_size}
 use Rattle.po_exp_read.proofs.LevelBounds.{formed_level}
-use Rattle.po_exp_read.proofs.Specifiers.{specs_sound, stars_sound}
+use Rattle.po_exp_parts.proofs.StarsPrinted.{stars_sound}
+use Rattle.po_exp_read.proofs.Specifiers.{specs_sound}
 
 -- what the sizes of arrays print
 abbrev pub flat_sizes : List (Option Exp) → List Sign

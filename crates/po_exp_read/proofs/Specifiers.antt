@@ -1,7 +1,7 @@
 -- The words and stars of a type name that are read are those that it prints, and those that it prints are read.
 use Rattle.std.proofs.Common.{◌≡◌, ℕ, List, [], ◌∷◌, ◌++◌, map, flat_map, Contains, All, ap, sym, ◌∙◌, refl, subst, append_assoc}
 use Rattle.std.specs.Prelude.{Some, None, false}
-use Rattle.std.proofs.lemmas.List.Elements.{All-nil, All-cons, All-head, All-tail}
+use Rattle.std.proofs.lemmas.List.Elements.{All-head, All-tail}
 use Rattle.po_tree.specs.declared.expression.Specifier.{Specifier}
 use Rattle.po_tree.specs.declared.expression.Specifier.TheVariants as sp
 use Rattle.po_tree.specs.Signs.{Sign, word, star}
@@ -9,7 +9,11 @@ use Rattle.po_tree.specs.Words.{qualifiers}
 use Rattle.po_tree.specs.Printing.{flat_specifier, prints_star}
 use Rattle.po_tree.specs.Layers.{flat_specifier-Word, flat_specifier-Named, flat_specifier-struct, flat_specifier-enum}
 use Rattle.po_tree.specs.Expressions.{Typed, untyped, TypeSpecs, no_more_specs, qualifier, type_word, typedef_name, struct_tag, enum_tag}
-use Rattle.po_exp_read.specs.TypeWords.{Begins, BeginsWord, SpecsRead, specs_end, qualifier as reads_qualifier, type_word as reads_type_word, typedef_name as reads_typedef_name, struct_tag as reads_struct_tag, enum_tag as reads_enum_tag, WordsRead, words_end, one_word, StarsRead, stars_end, one_star}
+use Rattle.po_exp_parts.specs.Places.{Begins, BeginsWord}
+use Rattle.po_exp_parts.specs.Stars.{StarsRead, no_star, one_star}
+use Rattle.po_exp_parts.proofs.Starred.{qualifier_word}
+use Rattle.po_exp_parts.proofs.StarsPrinted.{words_complete}
+use Rattle.po_exp_parts.specs.TypeWords.{SpecsRead, specs_end, qualifier as reads_qualifier, type_word as reads_type_word, typedef_name as reads_typedef_name, struct_tag as reads_struct_tag, enum_tag as reads_enum_tag}
 
 -- a specifier that is printed before others
 one_before : {front ts : List Sign} (us : List Sign) (spec : Specifier) (specs : List Specifier) → flat_specifier spec ≡ front →
@@ -37,24 +41,6 @@ specs_sound (reads_enum_tag tag rest ts us is read) =
     let p = specs_sound read in
     (enum_tag tag rest is p.0, one_before us (sp.Enum (Some tag) None false) rest (flat_specifier-enum tag) p.1)
 
--- the words behind a star that are read are qualifiers, and are printed as what was read
-pub words_sound : {ts us : List Sign} {words : List (List ℕ)} → WordsRead ts words us → All (Contains qualifiers) words × (ts ≡ map word words ++ us)
-words_sound (words_end ts ends) = (All-nil (Contains qualifiers), refl)
-words_sound (one_word text rest ts us is read) =
-    let p = words_sound read in
-    (All-cons (Contains qualifiers) text rest is p.0, ap (λ v. word text ∷ v) p.1)
-
--- stars that are read have qualifiers behind them, and are printed as what was read
-pub stars_sound : {ts us : List Sign} {stars : List (List (List ℕ))} → StarsRead ts stars us →
-    All (All (Contains qualifiers)) stars × (ts ≡ flat_map prints_star stars ++ us)
-stars_sound (stars_end ts ends) = (All-nil (All (Contains qualifiers)), refl)
-stars_sound (one_star words stars ts us vs read rest) =
-    let p = words_sound read in
-    let q = stars_sound rest in (
-      All-cons (All (Contains qualifiers)) words stars p.0 q.0,
-      ap (λ v. star ∷ v) (p.1 ∙ ap (λ v. map word words ++ v) q.1 ∙ sym (append_assoc (map word words) (flat_map prints_star stars) vs)),
-    )
-
 -- specifiers that may stand in a type name are read where they are printed and no word follows them
 pub specs_complete : {types : List (List ℕ)} {seen : Typed} {specs : List Specifier} (rest : List Sign) → TypeSpecs types seen specs → (BeginsWord rest → ⊥) →
     SpecsRead types seen (flat_map flat_specifier specs ++ rest) specs rest
@@ -75,12 +61,6 @@ specs_complete {types = types} rest (enum_tag tag specs is w) ends =
     subst (λ v. SpecsRead types untyped v (sp.Enum (Some tag) None false ∷ specs) rest) (one_before rest (sp.Enum (Some tag) None false) specs (flat_specifier-enum tag) refl)
     (reads_enum_tag tag specs _ rest is (specs_complete rest w ends))
 
--- qualifiers behind a star are read where they are printed and no word follows them
-pub words_complete : (words : List (List ℕ)) (rest : List Sign) → All (Contains qualifiers) words → (BeginsWord rest → ⊥) → WordsRead (map word words ++ rest) words rest
-words_complete [] rest all ends = words_end rest ends
-words_complete (text ∷ words) rest all ends =
-    one_word text words _ rest (All-head (Contains qualifiers) text words all) (words_complete words rest (All-tail (Contains qualifiers) text words all) ends)
-
 -- stars begin with no word
 pub stars_begin : (stars : List (List (List ℕ))) (rest : List Sign) → (BeginsWord rest → ⊥) → BeginsWord (flat_map prints_star stars ++ rest) → ⊥
 stars_begin [] rest ends q = ends q
@@ -89,10 +69,10 @@ stars_begin (words ∷ stars) rest ends q = cc
 -- stars are read where they are printed, and neither a word nor a star follows them
 pub stars_complete : (stars : List (List (List ℕ))) (rest : List Sign) → All (All (Contains qualifiers)) stars → (BeginsWord rest → ⊥) → (Begins star rest → ⊥) →
     StarsRead (flat_map prints_star stars ++ rest) stars rest
-stars_complete [] rest all ends last = stars_end rest last
+stars_complete [] rest all ends last = no_star rest last
 stars_complete (words ∷ stars) rest all ends last =
     let us : List Sign = flat_map prints_star stars ++ rest in
     let these = All-head (All (Contains qualifiers)) words stars all in
     let those = All-tail (All (Contains qualifiers)) words stars all in
     subst (λ v. StarsRead (star ∷ v) (words ∷ stars) rest) (sym (append_assoc (map word words) (flat_map prints_star stars) rest))
-    (one_star words stars _ us rest (words_complete words us these (stars_begin stars rest ends)) (stars_complete stars rest those ends last))
+    (one_star words stars _ us rest (words_complete words us these (λ b. stars_begin stars rest ends (qualifier_word us b))) (stars_complete stars rest those ends last))

@@ -1,11 +1,8 @@
 -- String literals side by side, compared.
 use Rattle.std.proofs.Common.{◌≡◌, ℕ, List, [], ◌∷◌, ◌++◌, length, length-append, map, ap, sym, refl, subst, arith}
 use Rattle.po_tree.specs.Signs.{Sign, string}
+use Rattle.po_exp_parts.proofs.SameSigns.{same_string}
 use Rattle.po_exp_read.proofs.Comparing.{Halts, Compared, same, longer, shorter, compared_map, halts_string}
-
--- equal string literals have equal bytes
-pub same_string : {text other : List ℕ} {ts us : List Sign} → string text ∷ ts ≡ string other ∷ us → (text ≡ other) × (ts ≡ us)
-same_string {text = text} {other = other} w = let heads : string text ≡ string other = cc in (ap (λ v. v.text) heads, cc)
 
 -- more string literals or fewer of the same signs
 pub texts_compared : (m : ℕ) (texts others : List (List ℕ)) (us vs : List Sign) → map string texts ++ us ≡ map string others ++ vs →

@@ -1,7 +1,2 @@
 pub mod Longest
-pub mod Continuing
-pub mod TypeWords
-pub mod OneSpecifier
-pub mod Reading
-pub mod Places
-pub mod Ends
+pub mod Enclosed

@@ -5,26 +5,28 @@ ghost use Rattle.po_tree.specs.declared.operator.Prefix.TheVariants as p;
 ghost use Rattle.po_tree.specs.Heights.{height as height_of, type_height};
 ghost use Rattle.po_tree.specs.Signs.{Sign, punct, opening};
 ghost use Rattle.po_tree.specs.Operators.{prefix_sign};
-ghost use Rattle.po_exp_read.specs.declared.continuation.Continuation.TheVariants as c;
-ghost use Rattle.po_exp_read.specs.Continuing.{tail_height};
-ghost use Rattle.po_exp_read.specs.TypeWords.{Begins, StartsType};
-ghost use Rattle.po_exp_read.specs.Reading.{Reads, Follows, Arguments, Items, SizesRead};
-ghost use Rattle.po_exp_read.specs.Places.{signs_from, Finds, operand_height, list_height, sizes_height, StandsAsOperand, StandsClosed, StandsEnclosed, Closes};
-ghost use Rattle.po_exp_read.specs.Longest.{signs_between, least_of, IsEnd, IsLongest, IsLongestAt, NothingStands, NothingStandsAt, StandsAt, StandsBefore};
+ghost use Rattle.po_exp_parts.specs.declared.continuation.Continuation.TheVariants as c;
+ghost use Rattle.po_exp_parts.specs.Continuing.{tail_height};
+ghost use Rattle.po_exp_parts.specs.Places.{Begins, signs_from, signs_between, IsEnd};
+ghost use Rattle.po_exp_parts.specs.TypeWords.{StartsType};
+ghost use Rattle.po_exp_parts.specs.Reading.{Reads, Follows, Arguments, Items, SizesRead};
+ghost use Rattle.po_exp_parts.specs.Finding.{Finds, operand_height, StandsAsOperand};
+ghost use Rattle.po_exp_read.specs.Enclosed.{list_height, sizes_height, StandsClosed, StandsEnclosed, Closes};
+ghost use Rattle.po_exp_parts.specs.Levels.{least_of};
+ghost use Rattle.po_exp_read.specs.Longest.{IsLongest, IsLongestAt, NothingStands, NothingStandsAt, StandsAt, StandsBefore};
 
-use crate::continuation::Continuation;
-use crate::found::{Found, Leveled, Tail};
-use crate::growing::grow;
-use crate::leaves::{continuation_at, leaf_at, selected_at, strings_at};
-use crate::levels::{ASSIGNMENT, CAST, CONDITIONAL, Level};
-use crate::making::{
-    as_arguments, as_choice, as_right, as_subscript, convert, enclose, measure, named, precede,
-    unleveled,
-};
-use crate::operators::{least_operand_of, least_right_of, level, prefix_of};
-use crate::places::stands;
-use crate::type_words::{specs_at, stars_at, starts_type};
 use po_base::{List, Memory, Token, TokenKind, Tokens};
+use po_exp_parts::continuation::Continuation;
+use po_exp_parts::found::{Found, Leveled, Tail};
+use po_exp_parts::leaves::{continuation_at, leaf_at, selected_at, strings_at};
+use po_exp_parts::levels::{ASSIGNMENT, CAST, COMMA, CONDITIONAL, Level};
+use po_exp_parts::operands::{convert, enclose, measure, precede, unleveled};
+use po_exp_parts::operators::{least_operand, least_right, level_of, prefix_of};
+use po_exp_parts::places::stands;
+use po_exp_parts::stars::stars_at;
+use po_exp_parts::tails::{as_arguments, as_choice, as_right, as_subscript, extend};
+use po_exp_parts::type_names::named;
+use po_exp_parts::type_words::{specs_at, starts_type};
 use po_tree::{Exp, Infix, Names, Prefix, TypeName};
 use std::alloc::Global;
 
@@ -79,8 +81,8 @@ fn expression(
         let Some(tail) = tail(alloc, tokens, names, start, next, depth - 1)? else {
             return Ok(Some(found));
         };
-        found = grow(alloc, found, tail)?;
-        own = level(next);
+        found = extend(alloc, found, tail)?;
+        own = level_of(next);
     }
     Ok(Some(found))
 }
@@ -171,7 +173,7 @@ fn parenthesised_at(
         }
         return cast_at(alloc, tokens, names, at, least, depth);
     }
-    match closed(alloc, tokens, names, inside, 0, depth - 1, b")")? {
+    match closed(alloc, tokens, names, inside, COMMA, depth - 1, b")")? {
         Some(inner) => Ok(Some(enclose(alloc, inner)?)),
         None => Ok(None),
     }
@@ -227,7 +229,7 @@ fn unary_at(
             None => Ok(None),
         };
     }
-    match expression(alloc, tokens, names, next, least_operand_of(p), depth - 1)? {
+    match expression(alloc, tokens, names, next, least_operand(p), depth - 1)? {
         Some(inner) => Ok(Some(precede(alloc, p, inner)?)),
         None => Ok(None),
     }
@@ -250,7 +252,7 @@ fn tail(
     match next {
         Continuation::Infix(o) => right_at(alloc, tokens, names, at, o, depth),
         Continuation::Question => chosen_at(alloc, tokens, names, at, depth),
-        Continuation::Bracket => match closed(alloc, tokens, names, at, 0, depth, b"]")? {
+        Continuation::Bracket => match closed(alloc, tokens, names, at, COMMA, depth, b"]")? {
             Some(inner) => Ok(Some(as_subscript(inner))),
             None => Ok(None),
         },
@@ -280,7 +282,7 @@ fn right_at(
     requires shallow { depth < 2 ^ 16 }
     ensures { IfOk result (λ found. Finds tail_height (Follows names.now.typedefs (c.Infix o) (signs_from tokens.now at)) depth at tokens.now found) }
 {
-    match expression(alloc, tokens, names, at, least_right_of(o), depth)? {
+    match expression(alloc, tokens, names, at, least_right(o), depth)? {
         Some(inner) => Ok(Some(as_right(o, inner))),
         None => Ok(None),
     }
@@ -298,7 +300,7 @@ fn chosen_at(
     requires shallow { depth < 2 ^ 16 }
     ensures { IfOk result (λ found. Finds tail_height (Follows names.now.typedefs c.Question (signs_from tokens.now at)) depth at tokens.now found) }
 {
-    let Some(middle) = closed(alloc, tokens, names, at, 0, depth, b":")? else {
+    let Some(middle) = closed(alloc, tokens, names, at, COMMA, depth, b":")? else {
         return Ok(None);
     };
     let Some(last) = expression(alloc, tokens, names, middle.end, CONDITIONAL, depth)? else {
@@ -383,9 +385,7 @@ fn type_at(
     if specs.is_empty() {
         return Ok(None);
     }
-    let Some((stars, stars_end)) = stars_at(alloc, tokens, specs_end)? else {
-        return Ok(None);
-    };
+    let (stars, stars_end) = stars_at(alloc, tokens, specs_end)?;
     let Some(sizes) = sizes_at(alloc, tokens, names, stars_end, depth)? else {
         return Ok(None);
     };
@@ -453,7 +453,7 @@ pub fn read_exp(
     let all = tokens.list.as_slice();
     let end = (to as usize).min(all.len());
     let range = &all[..end];
-    match expression(alloc, range, names, from as usize, 0, MOST_NESTED)? {
+    match expression(alloc, range, names, from as usize, COMMA, MOST_NESTED)? {
         Some(found) => Ok(Some((found.value, found.end as u32))),
         None => Ok(None),
     }
@@ -476,7 +476,7 @@ pub fn read_exp_at(
     let all = tokens.list.as_slice();
     let end = (to as usize).min(all.len());
     let range = &all[..end];
-    let least = level.least();
+    let least = level.least_of();
     match expression(alloc, range, names, from as usize, least, MOST_NESTED)? {
         Some(found) => Ok(Some((found.value, found.end as u32))),
         None => Ok(None),

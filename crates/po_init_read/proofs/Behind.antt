@@ -7,8 +7,7 @@ use Rattle.po_tree.specs.Signs.{Sign, comma, brace, brace_end}
 use Rattle.po_tree.specs.Printing.{flat_init, after_commas}
 use Rattle.po_tree.specs.Heights.{init_height}
 use Rattle.po_tree.specs.Declarations.{IsInit, one, many, AllInits, one_more_init}
-use Rattle.po_exp_read.specs.Longest.{at_comma, at_brace}
-use Rattle.po_init_read.specs.Initialisers.{BeginsEnd}
+use Rattle.po_exp_parts.specs.Places.{at_comma, at_brace, BeginsEnd}
 use Rattle.po_init_read.proofs.Layers.{flat_init-Many}
 use Rattle.po_init_read.proofs.Fronts.{no_expression}
 use Rattle.po_init_read.proofs.Ended.{stands_at}

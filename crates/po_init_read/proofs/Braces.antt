@@ -7,7 +7,7 @@ use Rattle.po_tree.specs.Signs.{Sign, comma, brace, brace_end}
 use Rattle.po_tree.specs.Printing.{flat_init}
 use Rattle.po_tree.specs.Heights.{init_height, greatest}
 use Rattle.po_tree.specs.Declarations.{IsInit, one, many, AllInits, no_more_inits, one_more_init}
-use Rattle.po_exp_read.specs.TypeWords.{Begins}
+use Rattle.po_exp_parts.specs.Places.{Begins}
 use Rattle.po_init_read.specs.Initialisers.{StandsEnded}
 use Rattle.po_init_read.specs.Completing.{Completes, item, next, closed, closed_behind_comma, Alike}
 use Rattle.po_init_read.proofs.Layers.{init_height-Many}

@@ -7,8 +7,9 @@ use Rattle.po_tree.specs.Printing.{flat, flat_init}
 use Rattle.po_tree.specs.Heights.{init_height}
 use Rattle.po_tree.specs.Expressions.{Formed}
 use Rattle.po_tree.specs.Declarations.{one}
-use Rattle.po_exp_read.specs.Longest.{StandsAt, IsLongestAt, IsEnd, at_semicolon}
-use Rattle.po_init_read.specs.Initialisers.{BeginsEnd, StandsEnded}
+use Rattle.po_exp_read.specs.Longest.{StandsAt, IsLongestAt}
+use Rattle.po_exp_parts.specs.Places.{IsEnd, at_semicolon, BeginsEnd}
+use Rattle.po_init_read.specs.Initialisers.{StandsEnded}
 use Rattle.po_init_read.proofs.Layers.{flat_init-One, init_height-One}
 
 -- the law of the reader of expressions

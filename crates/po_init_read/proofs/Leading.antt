@@ -5,10 +5,10 @@ use Rattle.std.specs.Prelude.{reverse}
 use Rattle.po_base.specs.declared.token.Token.{Token}
 use Rattle.po_tree.specs.declared.declaration.Init.{Init}
 use Rattle.po_tree.specs.Signs.{Sign}
-use Rattle.po_exp_read.specs.Longest.{signs_between}
+use Rattle.po_exp_parts.specs.Places.{signs_between, BeginsEnd}
 use Rattle.po_init_read.specs.declared.read.State.{State}
 use Rattle.po_init_read.specs.declared.read.Step.TheVariants as step
-use Rattle.po_init_read.specs.Initialisers.{BeginsEnd, StandsEnded}
+use Rattle.po_init_read.specs.Initialisers.{StandsEnded}
 use Rattle.po_init_read.specs.Completing.{Completes, item, whole, Completed, Goes, Leads}
 
 -- what is completed from nothing is what stands there

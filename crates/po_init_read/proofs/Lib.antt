@@ -6,5 +6,3 @@ pub mod One
 pub mod Values
 pub mod Braces
 pub mod Leading
-pub mod Ranges
-pub mod Ends

@@ -7,7 +7,8 @@ use Rattle.po_tree.specs.Signs.{Sign, comma}
 use Rattle.po_tree.specs.Printing.{flat_init}
 use Rattle.po_tree.specs.Heights.{init_height, greatest}
 use Rattle.po_tree.specs.Declarations.{IsInit, one, many, AllInits, no_more_inits, one_more_init}
-use Rattle.po_init_read.specs.Initialisers.{BeginsEnd, StandsEnded}
+use Rattle.po_exp_parts.specs.Places.{BeginsEnd}
+use Rattle.po_init_read.specs.Initialisers.{StandsEnded}
 use Rattle.po_init_read.proofs.Layers.{init_height-Many}
 use Rattle.po_init_read.proofs.Fronts.{is_front, no_expression}
 use Rattle.po_init_read.proofs.Ended.{OneBeforeEnd, one_expression, stands_at}

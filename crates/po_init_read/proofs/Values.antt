@@ -7,9 +7,8 @@ use Rattle.po_tree.specs.Signs.{Sign, brace}
 use Rattle.po_tree.specs.Printing.{flat_init}
 use Rattle.po_tree.specs.Heights.{init_height}
 use Rattle.po_tree.specs.Declarations.{IsInit, one, many}
-use Rattle.po_exp_read.specs.TypeWords.{Begins}
-use Rattle.po_exp_read.specs.Longest.{IsLongestAt, NothingStandsAt, StandsAt, at_comma, at_brace}
-use Rattle.po_init_read.specs.Initialisers.{BeginsEnd}
+use Rattle.po_exp_parts.specs.Places.{Begins, at_comma, at_brace, BeginsEnd}
+use Rattle.po_exp_read.specs.Longest.{IsLongestAt, NothingStandsAt, StandsAt}
 use Rattle.po_init_read.specs.Completing.{Completes, item, whole, next, closed, closed_behind_comma, Alike}
 use Rattle.po_init_read.proofs.Ended.{OneBeforeEnd, longest_ended, stands_at, stands_ended}
 use Rattle.po_init_read.proofs.Behind.{flat_braces}

@@ -4,11 +4,11 @@ use Rattle.po_base.specs.declared.token.Token.{Token}
 use Rattle.po_tree.specs.declared.declaration.Init.{Init}
 use Rattle.po_tree.specs.declared.declaration.Init.TheVariants as init
 use Rattle.po_tree.specs.Signs.{Sign, comma, brace_end}
-use Rattle.po_exp_read.specs.Longest.{signs_between}
+use Rattle.po_exp_parts.specs.Places.{signs_between, BeginsEnd}
 use Rattle.po_init_read.specs.declared.read.State.{State}
 use Rattle.po_init_read.specs.declared.read.Step.{Step}
 use Rattle.po_init_read.specs.declared.read.Step.TheVariants as step
-use Rattle.po_init_read.specs.Initialisers.{BeginsEnd, StandsEnded}
+use Rattle.po_init_read.specs.Initialisers.{StandsEnded}
 
 -- Completes types outer last ts y us: behind what was read, y is completed by the tokens at the front of ts, and us are left. What was read are
 -- the items so far of each open brace, the innermost first, and the last initialiser; none where one is wanted. An initialiser that is wanted

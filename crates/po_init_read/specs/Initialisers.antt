@@ -1,16 +1,11 @@
 -- The initialiser at the front of tokens (C99 6.7.8).
-use Rattle.std.specs.Prelude.{ℕ, ◌≤◌, ◌≡◌, List, [], ◌∷◌, ◌++◌}
+use Rattle.std.specs.Prelude.{ℕ, ◌≤◌, ◌≡◌, List, ◌++◌}
 use Rattle.po_tree.specs.declared.declaration.Init.{Init}
 use Rattle.po_tree.specs.Signs.{Sign}
 use Rattle.po_tree.specs.Printing.{flat_init}
 use Rattle.po_tree.specs.Heights.{init_height}
 use Rattle.po_tree.specs.Declarations.{IsInit}
-use Rattle.po_exp_read.specs.Longest.{IsEnd}
-
--- first comes what ends an initialiser, as a comma, a semicolon or a closing brace
-abbrev pub BeginsEnd : List Sign → Type 0
-BeginsEnd [] = ⊥
-BeginsEnd (sign ∷ signs) = IsEnd sign
+use Rattle.po_exp_parts.specs.Places.{BeginsEnd}
 
 -- x is a well-formed initialiser, none of whose paths has more than 256 expressions, where `types` are the typedef names in force;
 -- the tokens are those that it prints and then these, which begin with an end

@@ -1,13 +1,12 @@
-ghost use Rattle.std.specs.Prelude.{ℕ, ◌≡◌, ◌≤◌, ◌∷◌, ◌++◌, [], length, IfOk, IfSome, IfNone, Some, None};
-ghost use Rattle.std.specs.Prelude.{List as Sequence};
+ghost use Rattle.std.specs.Prelude.{ℕ, ◌≡◌, ◌≤◌, ◌∷◌, ◌++◌, [], length, IfOk, IfSome, IfNone, Some, None, List as Sequence};
 ghost use Rattle.po_tree.specs.declared.declaration.Init.{Init as Tree};
 ghost use Rattle.po_tree.specs.Signs.{Sign};
-ghost use Rattle.po_exp_read.specs.Longest.{signs_between};
+ghost use Rattle.po_exp_parts.specs.Places.{signs_between};
 ghost use Rattle.po_init_read.specs.Initialisers.{StandsEnded, NoneStandsEnded};
 ghost use Rattle.po_init_read.specs.Completing.{Goes};
 
-use crate::places::{ends, stands};
 use po_base::{List, Memory, Tokens};
+use po_exp_parts::ranges::{ends, stands};
 use po_exp_read::{Level, one_tree_before_an_end, read_exp_at};
 use po_tree::{Init, Names};
 use std::alloc::Global;

@@ -1,8 +1,8 @@
 use Rattle.std.proofs.Common.{◌∙◌, arith, refl}
 use Rattle.std.specs.Prelude.{true, false}
 use Rattle.po_tree.specs.Declarations.{without}
-use Rattle.po_exp_read.proofs.Telling.{none_told}
-use Rattle.po_decl_parts.proofs.Leading.{leads_start, leads_on, leads_nowhere}
+use Rattle.std.proofs.lemmas.Bool.{iff_false}
+use Rattle.po_exp_parts.proofs.Leading.{leads_start, leads_on, leads_nowhere}
 use Rattle.po_decl_parts.proofs.Naming.{hides_same}
 use Rattle.po_decl_parts.proofs.Listed.{item_leads, no_items, open_items, closed_by_brace, closed_by_comma}
 use Rattle.po_decl_parts.proofs.enumerators.enumerators_at.Goals as goal
@@ -26,7 +26,7 @@ pub returns-then-not-stands-clause-none : goal.returns-then-not-stands-clause-no
 returns-then-not-stands-clause-none c = λ types s items more behind left w.
     let l = c.loop-items.invariant.leads types s in
     let read = rw c.in-Some.is at (c.in_ok-name.ensures.found l.0 l.1) in
-    leads_nowhere l.2 (open_items read (none_told c.if-stands.ensures.first) (none_told c.if-not-stands.ensures.first)) items (record { more = more; types = behind; left = left }) w
+    leads_nowhere l.2 (open_items read (iff_false c.if-stands.ensures.first refl) (iff_false c.if-not-stands.ensures.first refl)) items (record { more = more; types = behind; left = left }) w
 
 pub returns-then-stands-2-clause-found : goal.returns-then-stands-2-clause-found
 returns-then-stands-2-clause-found c = λ types s.
@@ -44,7 +44,7 @@ loop-items-preserved c =
       leads = λ types s.
           let l = i.leads types s in
           let read = rw c.in-Some.is at (c.in_ok-name.ensures.found l.0 l.1) in
-          (_, hides_same _ _ _ _ l.1 hidden.0, rw c.in_ok-push.ensures.ok (leads_on l.2 (item_leads _ read c.if-not-stands.ensures.behind (none_told c.if-stands-2.ensures.first))));
+          (_, hides_same _ _ _ _ l.1 hidden.0, rw c.in_ok-push.ensures.ok (leads_on l.2 (item_leads _ read c.if-not-stands.ensures.behind (iff_false c.if-stands-2.ensures.first refl))));
       kept = (hidden.1 ∙ i.kept.0, hidden.2 ∙ i.kept.1);
       after = omega (arith, i.after, within.0);
     }

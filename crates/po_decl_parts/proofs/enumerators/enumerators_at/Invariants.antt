@@ -1,7 +1,7 @@
 use Rattle.std.proofs.Common.{◌≡◌, ◌≤◌, ◌-◌, ℕ, List}
 use Rattle.po_tree.specs.NameSets.{AreSame}
-use Rattle.po_exp_read.specs.Longest.{signs_between}
-use Rattle.po_decl_parts.proofs.Leading.{Leads}
+use Rattle.po_exp_parts.specs.Places.{signs_between}
+use Rattle.po_exp_parts.proofs.Leading.{Leads}
 use Rattle.po_decl_parts.proofs.Listed.{Items}
 use Rattle.po_decl_parts.proofs.enumerators.enumerators_at.Given as goal
 

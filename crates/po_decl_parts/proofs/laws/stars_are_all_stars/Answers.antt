@@ -1,5 +1,5 @@
 use Rattle.po_decl_parts.proofs.Printed.{stars_printed, stars_read}
-use Rattle.po_decl_parts.proofs.Starred.{stars_same}
+use Rattle.po_exp_parts.proofs.Starred.{stars_same}
 use Rattle.po_decl_parts.proofs.laws.stars_are_all_stars.Goals as goal
 
 pub returns-clause-printed : goal.returns-clause-printed

@@ -1,8 +1,8 @@
 use Rattle.std.proofs.Common.{◌≤◌, ◌-◌, ℕ, List, length}
 use Rattle.po_tree.specs.NameSets.{AreSame}
-use Rattle.po_exp_read.specs.Longest.{signs_between}
+use Rattle.po_exp_parts.specs.Places.{signs_between}
 use Rattle.po_decl_parts.specs.Sizes.{SizesRead}
-use Rattle.po_decl_parts.proofs.Leading.{Leads}
+use Rattle.po_exp_parts.proofs.Leading.{Leads}
 use Rattle.po_decl_parts.proofs.sizes.sizes_at.Given as goal
 
 abbrev pub invariant-loop-alloc : goal.invariant-loop-alloc

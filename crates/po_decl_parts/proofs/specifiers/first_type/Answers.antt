@@ -1,5 +1,5 @@
 use Rattle.std.proofs.Common.{refl}
-use Rattle.po_exp_read.proofs.Telling.{none_told}
+use Rattle.std.proofs.lemmas.Bool.{iff_false}
 use Rattle.po_decl_parts.specs.Specifiers.{typedef_name}
 use Rattle.po_decl_parts.proofs.FirstWords.{no_name}
 use Rattle.po_decl_parts.proofs.specifiers.first_type.Goals as goal
@@ -18,7 +18,7 @@ returns-then-is_word-2-clause-none c = λ outer types s plain. rw (c.if-is_word-
 
 pub returns-then-not-is_type_name-clause-none : goal.returns-then-not-is_type_name-clause-none
 returns-then-not-is_type_name-clause-none c = λ outer types s plain spec free' behind seen' us w.
-    no_name plain (none_told c.if-is_word.ensures) (none_told c.if-is_word-2.ensures) (λ h. none_told c.if-not-is_type_name.ensures (h.0, (s _).0 h.1)) w
+    no_name plain (iff_false c.if-is_word.ensures refl) (iff_false c.if-is_word-2.ensures refl) (λ h. iff_false c.if-not-is_type_name.ensures refl (h.0, (s _).0 h.1)) w
 
 pub returns-clause-found : goal.returns-clause-found
 returns-clause-found c = λ outer types s.

@@ -1,5 +1,5 @@
 use Rattle.std.proofs.Common.{refl}
-use Rattle.po_exp_read.proofs.Telling.{none_told}
+use Rattle.std.proofs.lemmas.Bool.{iff_false}
 use Rattle.po_decl_parts.proofs.FirstWords.{opens_word, opens_struct, opens_by}
 use Rattle.po_decl_parts.proofs.specifiers.opening_at.Goals as goal
 
@@ -7,7 +7,7 @@ pub returns-in_default-clause-none : goal.returns-in_default-clause-none
 returns-in_default-clause-none c = λ tag left w. c.in_default.ensures.first (opens_word w)
 
 pub returns-then-not-is_word-clause-none : goal.returns-then-not-is_word-clause-none
-returns-then-not-is_word-clause-none c = λ tag left w. none_told c.if-not-is_word.ensures (opens_struct c.in-Some.ensures.first w).0
+returns-then-not-is_word-clause-none c = λ tag left w. iff_false c.if-not-is_word.ensures refl (opens_struct c.in-Some.ensures.first w).0
 
 pub returns-in_default-2-clause-none : goal.returns-in_default-2-clause-none
 returns-in_default-2-clause-none c = λ tag left w.

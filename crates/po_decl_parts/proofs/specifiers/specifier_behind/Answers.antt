@@ -1,5 +1,5 @@
 use Rattle.std.proofs.Common.{refl}
-use Rattle.po_exp_read.proofs.Telling.{none_told}
+use Rattle.std.proofs.lemmas.Bool.{iff_false}
 use Rattle.po_decl_parts.specs.Specifiers.{storage_class, inline_word, qualifier, type_word}
 use Rattle.po_decl_parts.proofs.FirstWords.{no_storage, no_inline, no_type_word, no_typed, specifier_word}
 use Rattle.po_decl_parts.proofs.specifiers.specifier_behind.Goals as goal
@@ -25,7 +25,7 @@ returns-then-is_word-clause-found c = λ types s.
 
 pub returns-then-not-takes_word-clause-none : goal.returns-then-not-takes_word-clause-none
 returns-then-not-takes_word-clause-none c = λ types s spec free' behind seen' us w.
-    no_type_word (rw c.bytes-3.ensures at (c.if-is_type_word.ensures.0 refl)) (none_told c.if-not-takes_word.ensures) w
+    no_type_word (rw c.bytes-3.ensures at (c.if-is_type_word.ensures.0 refl)) (iff_false c.if-not-takes_word.ensures refl) w
 
 pub returns-then-is_type_word-clause-found : goal.returns-then-is_type_word-clause-found
 returns-then-is_type_word-clause-found c = λ types s.
@@ -33,9 +33,9 @@ returns-then-is_type_word-clause-found c = λ types s.
 
 pub returns-then-not-is_untyped-clause-none : goal.returns-then-not-is_untyped-clause-none
 returns-then-not-is_untyped-clause-none c = λ types s spec free' behind seen' us w.
-    no_typed (specifier_word (none_told (rw c.bytes.ensures at c.if-is_qualifier.ensures)) (none_told (rw c.bytes-2.ensures at c.if-is_storage_class.ensures))
-    (none_told c.if-is_word.ensures) (none_told (rw c.bytes-3.ensures at c.if-is_type_word.ensures)))
-    (none_told c.if-not-is_untyped.ensures) w
+    no_typed (specifier_word (iff_false (rw c.bytes.ensures at c.if-is_qualifier.ensures) refl) (iff_false (rw c.bytes-2.ensures at c.if-is_storage_class.ensures) refl)
+    (iff_false c.if-is_word.ensures refl) (iff_false (rw c.bytes-3.ensures at c.if-is_type_word.ensures) refl))
+    (iff_false c.if-not-is_untyped.ensures refl) w
 
 pub returns-clause-found : goal.returns-clause-found
 returns-clause-found c = λ types s. rw (c.if-not-is_untyped.ensures.0 refl) (c.first_type.ensures.found c.args.outer types s)
@@ -43,5 +43,5 @@ returns-clause-found c = λ types s. rw (c.if-not-is_untyped.ensures.0 refl) (c.
 pub returns-clause-none : goal.returns-clause-none
 returns-clause-none c = λ types s.
     rw (c.if-not-is_untyped.ensures.0 refl) (c.first_type.ensures.none c.args.outer types s
-    (specifier_word (none_told (rw c.bytes.ensures at c.if-is_qualifier.ensures)) (none_told (rw c.bytes-2.ensures at c.if-is_storage_class.ensures))
-    (none_told c.if-is_word.ensures) (none_told (rw c.bytes-3.ensures at c.if-is_type_word.ensures))))
+    (specifier_word (iff_false (rw c.bytes.ensures at c.if-is_qualifier.ensures) refl) (iff_false (rw c.bytes-2.ensures at c.if-is_storage_class.ensures) refl)
+    (iff_false c.if-is_word.ensures refl) (iff_false (rw c.bytes-3.ensures at c.if-is_type_word.ensures) refl)))

@@ -1,21 +1,12 @@
-use Rattle.std.proofs.Common.{arith}
-use Rattle.po_exp_read.proofs.Telling.{none_told}
-use Rattle.po_decl_parts.specs.Stars.{no_star}
-use Rattle.po_decl_parts.proofs.Leading.{leads_on, leads_end}
-use Rattle.po_decl_parts.proofs.Starred.{star_leads}
+use Rattle.std.proofs.Common.{◌≡◌, ◌∙◌, subst, take, drop, map, length, refl}
+use Rattle.std.specs.Prelude.{min}
+use Rattle.std.proofs.lemmas.List.{take_min}
+use Rattle.po_tree.specs.Signs.{sign_of}
+use Rattle.po_exp_parts.specs.Stars.{StarsRead}
 use Rattle.po_decl_parts.proofs.stars.stars_at.Goals as goal
 
-pub loop-alloc-preserved : goal.loop-alloc-preserved
-loop-alloc-preserved c =
-    let i = c.loop-alloc.invariant in
-    let here = c.loop-alloc-test.ensures.behind in
-    let inside = c.loop-alloc-test.ensures.within in
-    let words = c.in_ok-words.ensures in
-    rw c.in_ok-push.ensures.ok (record {
-      leads = leads_on i.leads (star_leads here words.found);
-      after = omega (arith, i.after, words.after);
-      within = λ a b. words.within (omega (arith, inside.0)) (omega (arith, inside.1));
-    })
-
 pub returns-clause-found : goal.returns-clause-found
-returns-clause-found c = leads_end c.loop-alloc.invariant.leads (no_star _ (none_told c.loop-alloc-test.ensures.first))
+returns-clause-found c =
+    let ends : take c.min-last.result c.as_slice-all.result.now ≡ take (min c.args.to (length c.args.tokens.now.list)) c.args.tokens.now.list = rw (c.min-last.ensures, c.as_slice-all.ensures) refl in
+    let same = ends ∙ take_min c.args.to c.args.tokens.now.list in
+    subst (λ ts. StarsRead (map sign_of (drop c.args.at ts)) c.in_ok-stars.stars (map sign_of (drop c.in_ok-stars.end ts))) same c.in_ok-stars.ensures.found

@@ -3,23 +3,23 @@ use Rattle.std.specs.Prelude.{Some, None}
 use Rattle.std.proofs.lemmas.Result.{IfOk-weaker}
 use Rattle.po_tree.specs.Signs.{punct, closing, bracket, bracket_end, comma}
 use Rattle.po_tree.specs.Layers.{height-Cast}
-use Rattle.po_exp_read.proofs.Telling.{none_told}
-use Rattle.po_exp_read.proofs.Standing.{stands_first, stands_within, at_end}
+use Rattle.std.proofs.lemmas.Bool.{iff_false}
+use Rattle.po_exp_parts.proofs.Standing.{stands_first, stands_within, at_end}
 use Rattle.po_exp_read.proofs.Heights.{height-grow, operand_high}
 use Rattle.po_exp_read.proofs.Shortening.{operand_shorten}
 use Rattle.po_exp_read.proofs.Finding.{made_none, made_found, made_finds}
 use Rattle.po_exp_read.proofs.Onward.{onward_none, onward_start, onward_step, onward_end, more_nowhere, more_too_high, more_none}
 use Rattle.po_exp_read.proofs.Closed.{closed_best, closed_none, chosen_best, chosen_none}
 use Rattle.po_exp_read.proofs.Operands.{paren_made, cast_low, cast_nowhere, cast_none, cast_best, unary_made, measures_none, size_here, size_made, right_made, index_made, call_made, step_best}
-use Rattle.po_exp_read.proofs.Leading.{leads_on}
+use Rattle.po_exp_parts.proofs.Leading.{leads_on}
 use Rattle.po_exp_read.proofs.Items.{item_unparted, item_leads, items_best, arguments_empty, arguments_made, height_push}
-use Rattle.po_exp_read.proofs.Sizes.{empty_leads, size_leads, size_nowhere, sizes_best, sizes_height_push, specs_empty, stars_nowhere, sizes_nowhere, type_best, type_open, type_sizes}
+use Rattle.po_exp_read.proofs.Sizes.{empty_leads, size_leads, size_nowhere, sizes_best, sizes_height_push, specs_empty, sizes_nowhere, type_best, type_open, type_sizes}
 use Rattle.po_exp_read.proofs.read.+reader.Goals as goal
 
 pub closed-returns-then-not-stands : goal.closed-returns-then-not-stands
 closed-returns-then-not-stands t c =
     let f = rw c.in-Some.is at c.in_ok-inner.ensures in
-    closed_none c.requires.closes (none_told c.if-not-stands.ensures) f.best
+    closed_none c.requires.closes (iff_false c.if-not-stands.ensures refl) f.best
 
 pub closed-returns : goal.closed-returns
 closed-returns t c =
@@ -73,7 +73,7 @@ expression-loop-next-preserved t c =
     let i = c.loop-next.invariant in
     let g = c.in-Some-continuation_at.ensures in
     let f = rw c.in-Some-2.is at c.in_ok-tail.ensures in
-    rw (c.in_ok-found.ensures, c.level-own.ensures) (record {
+    rw (c.in_ok-found.ensures, c.level_of-own.ensures) (record {
       onward = onward_step c.in-Some-continuation_at.next _ g.0 c.in-Some-2.tail.value _ f.best g.1 i.onward;
       counted = omega (arith, i.counted, f.counted, height-grow c.loop-next.found.value c.in-Some-2.tail.value);
       shallow = omega (arith, f.counted, f.best.shallow, c.if-found-depth.false);
@@ -110,14 +110,14 @@ pub parenthesised_at-returns-in_ok-enclose-in-Some :
     goal.parenthesised_at-returns-in_ok-enclose-in-Some
 parenthesised_at-returns-in_ok-enclose-in-Some t c =
     let f = rw c.in-Some.is at c.in_ok-inner.ensures in
-    let made = paren_made _ (omega (arith, c.requires.low)) c.requires.here (none_told c.if-starts_type.ensures) in
+    let made = paren_made _ (omega (arith, c.requires.low)) c.requires.here (iff_false c.if-starts_type.ensures refl) in
     let deeper : c.args.depth ≡ c.args.depth - 1 + 1 = omega (arith, c.requires.some) in
     let later : c.args.at ≤ c.args.at + 1 = omega arith in
     rw c.in_ok-enclose-in-Some.ensures (made_found made c.args.depth (c.args.depth - 1) deeper c.args.at (c.args.at + 1) c.args.tokens.now c.in-Some.inner later f)
 
 pub parenthesised_at-returns-in-None : goal.parenthesised_at-returns-in-None
 parenthesised_at-returns-in-None t c =
-    let made = paren_made _ (omega (arith, c.requires.low)) c.requires.here (none_told c.if-starts_type.ensures) in
+    let made = paren_made _ (omega (arith, c.requires.low)) c.requires.here (iff_false c.if-starts_type.ensures refl) in
     made_none made c.args.depth (c.args.depth - 1) (omega (arith, c.requires.some)) (rw c.in-None.is at c.in_ok-inner.ensures)
 
 pub cast_at-returns-in_default : goal.cast_at-returns-in_default
@@ -154,14 +154,14 @@ unary_at-returns-in-None t c = λ least high.
 
 pub unary_at-returns-in_ok-precede-in-Some-2 : goal.unary_at-returns-in_ok-precede-in-Some-2
 unary_at-returns-in_ok-precede-in-Some-2 t c = λ least high.
-    let none = measures_none c.args.names.now.typedefs (c.args.at + 1) c.args.tokens.now c.args.p (none_told c.if-measures_type.ensures) in
-    let f = rw (c.least_operand_of.ensures, c.in-Some-2.is) at c.in_ok-inner.ensures in
+    let none = measures_none c.args.names.now.typedefs (c.args.at + 1) c.args.tokens.now c.args.p (iff_false c.if-measures_type.ensures refl) in
+    let f = rw (c.least_operand.ensures, c.in-Some-2.is) at c.in_ok-inner.ensures in
     rw c.in_ok-precede-in-Some-2.ensures (made_found (unary_made c.args.p _ high c.requires.here none) c.args.depth (c.args.depth - 1) (omega (arith, c.requires.some)) c.args.at (c.args.at + 1) c.args.tokens.now c.in-Some-2.inner (omega arith) f)
 
 pub unary_at-returns-in-None-2 : goal.unary_at-returns-in-None-2
 unary_at-returns-in-None-2 t c = λ least high.
-    let none = measures_none c.args.names.now.typedefs (c.args.at + 1) c.args.tokens.now c.args.p (none_told c.if-measures_type.ensures) in
-    made_none (unary_made c.args.p _ high c.requires.here none) c.args.depth (c.args.depth - 1) (omega (arith, c.requires.some)) (rw (c.least_operand_of.ensures, c.in-None-2.is) at c.in_ok-inner.ensures)
+    let none = measures_none c.args.names.now.typedefs (c.args.at + 1) c.args.tokens.now c.args.p (iff_false c.if-measures_type.ensures refl) in
+    made_none (unary_made c.args.p _ high c.requires.here none) c.args.depth (c.args.depth - 1) (omega (arith, c.requires.some)) (rw (c.least_operand.ensures, c.in-None-2.is) at c.in_ok-inner.ensures)
 
 pub tail-returns-in-Some : goal.tail-returns-in-Some
 tail-returns-in-Some t c =
@@ -181,7 +181,7 @@ tail-returns-in-Step t c = rw c.in-Step.is (record { best = step_best c.in-Step.
 
 pub right_at-returns-in-Some : goal.right_at-returns-in-Some
 right_at-returns-in-Some t c =
-    let f = rw (c.least_right_of.ensures, c.in-Some.is) at c.in_ok-inner.ensures in
+    let f = rw (c.least_right.ensures, c.in-Some.is) at c.in_ok-inner.ensures in
     rw c.as_right.ensures (made_found (right_made c.args.o _) c.args.depth c.args.depth (omega arith) c.args.at c.args.at c.args.tokens.now c.in-Some.inner (omega arith) f)
 
 pub chosen_at-returns-in_default-2 : goal.chosen_at-returns-in_default-2
@@ -212,7 +212,7 @@ arguments_at-returns-then-stands t c =
 
 pub arguments_at-returns : goal.arguments_at-returns
 arguments_at-returns t c =
-    IfOk-weaker c.items_at.result _ _ (λ found h. made_finds (arguments_made (none_told c.if-stands.ensures)) c.args.depth c.args.at c.args.tokens.now found h) c.items_at.ensures
+    IfOk-weaker c.items_at.result _ _ (λ found h. made_finds (arguments_made (iff_false c.if-stands.ensures refl)) c.args.depth c.args.at c.args.tokens.now found h) c.items_at.ensures
 
 pub items_at-returns-then-stands : goal.items_at-returns-then-stands
 items_at-returns-then-stands t c =
@@ -233,7 +233,7 @@ items_at-returns-then-not-stands t c =
     let f = rw c.in-Some.is at c.in_ok-argument.ensures in
     λ xs us w h.
     let p = i.leads.back xs us (w, h) in
-    item_unparted f.best (none_told c.if-stands.ensures) (none_told c.if-not-stands.ensures) p.0 us p.2
+    item_unparted f.best (iff_false c.if-stands.ensures refl) (iff_false c.if-not-stands.ensures refl) p.0 us p.2
 
 pub items_at-loop-values-preserved : goal.items_at-loop-values-preserved
 items_at-loop-values-preserved t c =
@@ -264,7 +264,7 @@ sizes_at-returns-in_default t c = λ xs us w h.
     let i = c.loop-alloc.invariant in
     let first = stands_first c.loop-alloc.end c.args.tokens.now bracket (c.loop-alloc-test.ensures.0 refl) in
     let p = i.leads.back xs us (w, h) in
-    size_nowhere _ first (none_told c.if-stands.ensures) (rw c.in_default.is at c.in_ok-size.ensures) p.0 us p.2
+    size_nowhere _ first (iff_false c.if-stands.ensures refl) (rw c.in_default.is at c.in_ok-size.ensures) p.0 us p.2
 
 pub sizes_at-loop-alloc-preserved : goal.sizes_at-loop-alloc-preserved
 sizes_at-loop-alloc-preserved t c =
@@ -272,7 +272,7 @@ sizes_at-loop-alloc-preserved t c =
     let first = stands_first c.loop-alloc.end c.args.tokens.now bracket (c.loop-alloc-test.ensures.0 refl) in
     let f = rw c.in-Some.is at c.in_ok-size.ensures in
     rw c.in_ok-push-2.ensures.ok (record {
-      leads = leads_on i.leads (size_leads _ _ first (none_told c.if-stands.ensures) f.best);
+      leads = leads_on i.leads (size_leads _ _ first (iff_false c.if-stands.ensures refl) f.best);
       counted = omega (arith, c.max-height.ensures, i.counted, f.counted, sizes_height_push c.loop-alloc.sizes (Some c.in-Some.size.value));
       after = omega (arith, i.after, f.after);
       within = f.within;
@@ -281,7 +281,7 @@ sizes_at-loop-alloc-preserved t c =
 pub sizes_at-returns : goal.sizes_at-returns
 sizes_at-returns t c =
     let i = c.loop-alloc.invariant in
-    record { best = sizes_best i.leads (none_told c.loop-alloc-test.ensures); counted = i.counted; after = i.after; within = i.within }
+    record { best = sizes_best i.leads (iff_false c.loop-alloc-test.ensures refl); counted = i.counted; after = i.after; within = i.within }
 
 pub type_at-returns-then-is_empty : goal.type_at-returns-then-is_empty
 type_at-returns-then-is_empty t c =
@@ -291,32 +291,27 @@ type_at-returns-then-is_empty t c =
 pub type_at-returns-in_default-2 : goal.type_at-returns-in_default-2
 type_at-returns-in_default-2 t c =
     let s = rw c.in-Some.is at c.in_ok-specs.ensures.found in
-    stars_nowhere c.in-Some.specs s c.args.depth (rw c.in_default-2.is at c.in_ok-stars.ensures.none)
-
-pub type_at-returns-in_default-3 : goal.type_at-returns-in_default-3
-type_at-returns-in_default-3 t c =
-    let s = rw c.in-Some.is at c.in_ok-specs.ensures.found in
-    let r = rw c.in-Some-2.is at c.in_ok-stars.ensures.found in
-    sizes_nowhere c.in-Some.specs s c.in-Some-2.stars r c.args.depth (rw c.in_default-3.is at c.in_ok-sizes.ensures)
+    let r = c.in_ok-stars.ensures.found in
+    sizes_nowhere c.in-Some.specs s c.in_ok-stars.stars r c.args.depth (rw c.in_default-2.is at c.in_ok-sizes.ensures)
 
 pub type_at-returns-then-not-stands : goal.type_at-returns-then-not-stands
 type_at-returns-then-not-stands t c =
     let s = rw c.in-Some.is at c.in_ok-specs.ensures.found in
-    let r = rw c.in-Some-2.is at c.in_ok-stars.ensures.found in
-    let f = rw c.in-Some-3.is at c.in_ok-sizes.ensures in
-    type_open c.in-Some.specs s c.in-Some-2.stars r c.args.depth c.in-Some-3.sizes.value _ f.best.stands (none_told c.if-not-stands.ensures)
+    let r = c.in_ok-stars.ensures.found in
+    let f = rw c.in-Some-2.is at c.in_ok-sizes.ensures in
+    type_open c.in-Some.specs s c.in_ok-stars.stars r c.args.depth c.in-Some-2.sizes.value _ f.best.stands (iff_false c.if-not-stands.ensures refl)
 
 pub type_at-returns : goal.type_at-returns
 type_at-returns t c =
     let s = rw c.in-Some.is at c.in_ok-specs.ensures.found in
-    let r = rw c.in-Some-2.is at c.in_ok-stars.ensures.found in
-    let f = rw c.in-Some-3.is at c.in_ok-sizes.ensures in
+    let r = c.in_ok-stars.ensures.found in
+    let f = rw c.in-Some-2.is at c.in_ok-sizes.ensures in
     let specs_end = rw c.in-Some.is at c.in_ok-specs.ensures.within in
-    let stars_end = rw c.in-Some-2.is at c.in_ok-stars.ensures.within in
+    let stars_end = c.in_ok-stars.ensures in
     let ends = c.if-not-stands.ensures.0 refl in
     rw c.named.ensures (record {
-      best = type_best c.in-Some.specs s c.in-Some-2.stars r c.args.depth c.in-Some-3.sizes.value _ _ f.best (stands_first c.in-Some-3.sizes.end c.args.tokens.now closing ends) (none_told c.if-is_empty.ensures);
-      counted = f.counted ∙ sym (type_sizes c.in-Some-2.stars c.in-Some-3.sizes.value s);
-      after = omega (arith, specs_end.0, stars_end.0, f.after);
-      within = omega (arith, stands_within c.in-Some-3.sizes.end c.args.tokens.now closing ends);
+      best = type_best c.in-Some.specs s c.in_ok-stars.stars r c.args.depth c.in-Some-2.sizes.value _ _ f.best (stands_first c.in-Some-2.sizes.end c.args.tokens.now closing ends) (iff_false c.if-is_empty.ensures refl);
+      counted = f.counted ∙ sym (type_sizes c.in_ok-stars.stars c.in-Some-2.sizes.value s);
+      after = omega (arith, specs_end.0, stars_end.after, f.after);
+      within = omega (arith, stands_within c.in-Some-2.sizes.end c.args.tokens.now closing ends);
     })

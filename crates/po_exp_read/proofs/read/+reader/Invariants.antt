@@ -1,7 +1,8 @@
 use Rattle.std.proofs.Common.{◌≡◌, ◌≤◌, ◌+◌, ◌-◌, ◌*◌, length}
 use Rattle.po_tree.specs.Heights.{height}
-use Rattle.po_exp_read.specs.Places.{signs_from, list_height, sizes_height}
-use Rattle.po_exp_read.proofs.Leading.{Leads}
+use Rattle.po_exp_parts.specs.Places.{signs_from}
+use Rattle.po_exp_read.specs.Enclosed.{list_height, sizes_height}
+use Rattle.po_exp_parts.proofs.Leading.{Leads}
 use Rattle.po_exp_read.proofs.Onward.{Onward}
 use Rattle.po_exp_read.proofs.Items.{ItemsHere}
 use Rattle.po_exp_read.proofs.Sizes.{SizesHere}

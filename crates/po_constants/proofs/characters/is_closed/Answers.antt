@@ -1,5 +1,0 @@
-use Rattle.po_constants.proofs.Quoted.{one_left}
-use Rattle.po_constants.proofs.characters.is_closed.Goals as goal
-
-pub returns-then-text-at-ne1 : goal.returns-then-text-at-ne1
-returns-then-text-at-ne1 c = ((λ h. absurd (cc)), (λ q. absurd (c.if-text-at-ne1.true (one_left _ _ _ q))))

@@ -1,0 +1,10 @@
+pub mod Places
+pub mod Levels
+pub mod Continuing
+pub mod Stars
+pub mod TypeWords
+pub mod Seen
+pub mod OneSpecifier
+pub mod Reading
+pub mod Finding
+pub mod Remains
