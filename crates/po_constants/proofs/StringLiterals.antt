@@ -4,7 +4,6 @@ use Rattle.std.specs.Prelude.{MatchBool}
 use Rattle.std.proofs.lemmas.List.{append-nil, take_more}
 use Rattle.po_tree.specs.Literals.{first_character, Characters, end_quote, next_character}
 use Rattle.po_typed.specs.Constants.{AreStrings, no_more_strings, one_more_string}
-use Rattle.po_lists.proofs.Options.{one_some}
 use Rattle.po_exp_parts.proofs.Quoted.{Closes, goes_on, closes}
 use Rattle.po_constants.specs.Strings.{IsStringOf}
 
