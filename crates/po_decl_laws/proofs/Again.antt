@@ -104,8 +104,8 @@ pub record BodyContinued (outer free : Bool) (types : List (List ℕ)) (tag : Op
 body_in : {outer free : Bool} {types final : List (List ℕ)} {seen sort : Typed} {signs inside : List Sign} {tag : Option (List ℕ)} {others : List Specifier} (vs : List Sign) →
     Opens signs tag inside → Specs outer free types seen others final sort → Begun outer free types seen others final sort →
     specs_height others ≤ 256 → signs ≡ flat_map flat_specifier others ++ vs → EndsSpecifiers final sort vs → BodyContinued outer free types tag inside others final sort vs
-body_in {tag = tag} {inside = inside} vs opens d nothing low q e = absurd (ends_no_opens e (subst (λ v. Opens v tag inside) q opens))
-body_in {tag = tag} {inside = inside} vs opens d (a_body inner final sort own m ms rest r is v w) low q e =
+body_in {inside = inside} {tag = tag} vs opens d nothing low q e = absurd (ends_no_opens e (subst (λ v. Opens v tag inside) q opens))
+body_in {inside = inside} {tag = tag} vs opens d (a_body inner final sort own m ms rest r is v w) low q e =
     let behind = flat_map flat_member (m ∷ ms) ++ (brace_end ∷ (flat_map flat_specifier rest ++ vs)) in
     let signs_same = same_word (sym opens.first ∙ q ∙ flat_body-before own (m ∷ ms) rest vs) in
     let s = tag_same opens.named (subst (λ v. TagRead v own behind) (sym signs_same.1) (tag_stands behind is)) in

@@ -42,8 +42,8 @@ named_bare (tag, ms, q) = cc
 tag_bare : {own : Option (List ℕ)} → HasMembers (sp.Struct own None) → ⊥
 tag_bare (tag, ms, q) = cc
 
-enum_bare : {own : Option (List ℕ)} {items : Option (List (List ℕ × Option Exp))} {more : Bool} → HasMembers (sp.Enum own items more) → ⊥
-enum_bare (tag, ms, q) = cc
+enum_bare : (own : Option (List ℕ)) (items : Option (List (List ℕ × Option Exp))) (more : Bool) → HasMembers (sp.Enum own items more) → ⊥
+enum_bare own items more (tag, ms, q) = cc
 
 by_word : {outer free still : Bool} {types behind final : List (List ℕ)} {seen now sort : Typed} (text : List ℕ) (rest : List Specifier) → Specs outer still behind now rest final sort →
     Begun outer free types seen (sp.Word text ∷ rest) final sort
@@ -60,9 +60,9 @@ begun (struct_tag outer free types types' seen' tag rest is w) =
     a_specifier _ _ _ _ _ (sp.Struct (Some tag) None) rest (record { text = codes "struct"; behind = word tag ∷ []; first = flat_specifier-struct tag }) tag_bare w
 begun (struct_body outer free types inner types' seen' tag m ms rest is v w) = a_body inner types' seen' tag m ms rest refl is v w
 begun (enum_tag outer free types types' seen' tag rest is w) =
-    a_specifier _ _ _ _ _ (sp.Enum (Some tag) None false) rest (record { text = codes "enum"; behind = word tag ∷ []; first = flat_specifier-enum tag }) enum_bare w
+    a_specifier _ _ _ _ _ (sp.Enum (Some tag) None false) rest (record { text = codes "enum"; behind = word tag ∷ []; first = flat_specifier-enum tag }) (enum_bare (Some tag) None false) w
 begun (enum_body outer free more types inner types' seen' tag item items rest is v w) =
-    a_specifier _ _ _ _ _ (sp.Enum tag (Some (item ∷ items)) more) rest (record { text = codes "enum"; behind = _; first = flat_specifier-body tag (item ∷ items) more }) enum_bare w
+    a_specifier _ _ _ _ _ (sp.Enum tag (Some (item ∷ items)) more) rest (record { text = codes "enum"; behind = _; first = flat_specifier-body tag (item ∷ items) more }) (enum_bare tag (Some (item ∷ items)) more) w
 
 -- what specifiers and what ends them print begins with no brace
 begun_no_brace : {outer free : Bool} {types final : List (List ℕ)} {seen sort : Typed} {specs : List Specifier} (us : List Sign) → Begun outer free types seen specs final sort → EndsSpecifiers final sort us →

@@ -1,5 +1,5 @@
 -- What stands behind the parts of a declaration begins none of them.
-use Rattle.std.proofs.Common.{◌≡◌, ◌∙◌, ℕ, ◌≤◌, List, [], ◌∷◌, ◌++◌, map, flat_map, Bool, true, cond, refl, sym, ap, subst, arith, append_assoc, codes}
+use Rattle.std.proofs.Common.{◌≡◌, ◌∙◌, ℕ, ◌≤◌, List, [], ◌∷◌, ◌++◌, map, flat_map, Bool, true, false, cond, get_or, refl, sym, ap, subst, arith, append_assoc, codes}
 use Rattle.std.specs.Prelude.{Contains, All, Option, Some, None}
 use Rattle.po_base.specs.declared.token.TokenKind.TheVariants as k
 use Rattle.po_tree.specs.declared.expression.Exp.{Exp}
@@ -28,6 +28,10 @@ use Rattle.po_decl_parts.proofs.Standing.{same_word, name_word}
 use Rattle.po_decl_laws.specs.Parts.{flat_param}
 use Rattle.po_decl_laws.specs.Fronts.{EndsSpecifiers, at_sign, at_word, IsDeclaratorEnd, at_comma, at_semicolon, at_closing, at_equals, at_colon, at_brace, EndsDeclarator, IsParameterEnd, before_another, behind_last, EndsParameter}
 use Rattle.po_decl_laws.proofs.Layers.{flat_suffix-Params, flat_declarator-all}
+
+-- the first byte of a text
+abbrev pub byte_of : List ℕ → ℕ
+byte_of text = get_or text 0 0
 
 -- a punctuator is no word
 pub punct_word : {text other : List ℕ} {ts us : List Sign} → punct text ∷ ts ≡ word other ∷ us → ⊥
@@ -78,12 +82,12 @@ pub record NoStarFirst (signs : List Sign) : Type 0 where
   pub other : text ≡ codes "*" → ⊥
 
 end_first : (sign : Sign) (ts : List Sign) → IsDeclaratorEnd sign → NoStarFirst (sign ∷ ts)
-end_first sign ts at_comma = record { text = codes ","; behind = ts; first = refl; other = λ q. cc }
-end_first sign ts at_semicolon = record { text = codes ";"; behind = ts; first = refl; other = λ q. cc }
-end_first sign ts at_closing = record { text = codes ")"; behind = ts; first = refl; other = λ q. cc }
-end_first sign ts at_equals = record { text = codes "="; behind = ts; first = refl; other = λ q. cc }
-end_first sign ts at_colon = record { text = codes ":"; behind = ts; first = refl; other = λ q. cc }
-end_first sign ts at_brace = record { text = codes "{"; behind = ts; first = refl; other = λ q. cc }
+end_first sign ts at_comma = record { text = codes ","; behind = ts; first = refl; other = λ q. omega (arith, ap byte_of q) }
+end_first sign ts at_semicolon = record { text = codes ";"; behind = ts; first = refl; other = λ q. omega (arith, ap byte_of q) }
+end_first sign ts at_closing = record { text = codes ")"; behind = ts; first = refl; other = λ q. omega (arith, ap byte_of q) }
+end_first sign ts at_equals = record { text = codes "="; behind = ts; first = refl; other = λ q. omega (arith, ap byte_of q) }
+end_first sign ts at_colon = record { text = codes ":"; behind = ts; first = refl; other = λ q. omega (arith, ap byte_of q) }
+end_first sign ts at_brace = record { text = codes "{"; behind = ts; first = refl; other = λ q. omega (arith, ap byte_of q) }
 
 ended_first : (us : List Sign) → EndsDeclarator us → NoStarFirst us
 ended_first [] e = absurd e
@@ -92,22 +96,22 @@ ended_first (sign ∷ ts) e = end_first sign ts e
 -- what may stand behind a declarator begins no size
 pub end_no_bracket : (us : List Sign) → EndsDeclarator us → Begins bracket us → ⊥
 end_no_bracket [] e q = e
-end_no_bracket (sign ∷ ts) at_comma q = let texts : codes "," ≡ codes "[" = ap (λ v. v.text) q in cc
-end_no_bracket (sign ∷ ts) at_semicolon q = let texts : codes ";" ≡ codes "[" = ap (λ v. v.text) q in cc
-end_no_bracket (sign ∷ ts) at_closing q = let texts : codes ")" ≡ codes "[" = ap (λ v. v.text) q in cc
-end_no_bracket (sign ∷ ts) at_equals q = let texts : codes "=" ≡ codes "[" = ap (λ v. v.text) q in cc
-end_no_bracket (sign ∷ ts) at_colon q = let texts : codes ":" ≡ codes "[" = ap (λ v. v.text) q in cc
-end_no_bracket (sign ∷ ts) at_brace q = let texts : codes "{" ≡ codes "[" = ap (λ v. v.text) q in cc
+end_no_bracket (sign ∷ ts) at_comma q = omega (arith, ap (λ v. byte_of v.text) q)
+end_no_bracket (sign ∷ ts) at_semicolon q = omega (arith, ap (λ v. byte_of v.text) q)
+end_no_bracket (sign ∷ ts) at_closing q = omega (arith, ap (λ v. byte_of v.text) q)
+end_no_bracket (sign ∷ ts) at_equals q = omega (arith, ap (λ v. byte_of v.text) q)
+end_no_bracket (sign ∷ ts) at_colon q = omega (arith, ap (λ v. byte_of v.text) q)
+end_no_bracket (sign ∷ ts) at_brace q = omega (arith, ap (λ v. byte_of v.text) q)
 
 -- and no list of parameters
 pub end_no_opening : (us : List Sign) → EndsDeclarator us → Begins opening us → ⊥
 end_no_opening [] e q = e
-end_no_opening (sign ∷ ts) at_comma q = let texts : codes "," ≡ codes "(" = ap (λ v. v.text) q in cc
-end_no_opening (sign ∷ ts) at_semicolon q = let texts : codes ";" ≡ codes "(" = ap (λ v. v.text) q in cc
-end_no_opening (sign ∷ ts) at_closing q = let texts : codes ")" ≡ codes "(" = ap (λ v. v.text) q in cc
-end_no_opening (sign ∷ ts) at_equals q = let texts : codes "=" ≡ codes "(" = ap (λ v. v.text) q in cc
-end_no_opening (sign ∷ ts) at_colon q = let texts : codes ":" ≡ codes "(" = ap (λ v. v.text) q in cc
-end_no_opening (sign ∷ ts) at_brace q = let texts : codes "{" ≡ codes "(" = ap (λ v. v.text) q in cc
+end_no_opening (sign ∷ ts) at_comma q = omega (arith, ap (λ v. byte_of v.text) q)
+end_no_opening (sign ∷ ts) at_semicolon q = omega (arith, ap (λ v. byte_of v.text) q)
+end_no_opening (sign ∷ ts) at_closing q = omega (arith, ap (λ v. byte_of v.text) q)
+end_no_opening (sign ∷ ts) at_equals q = omega (arith, ap (λ v. byte_of v.text) q)
+end_no_opening (sign ∷ ts) at_colon q = omega (arith, ap (λ v. byte_of v.text) q)
+end_no_opening (sign ∷ ts) at_brace q = omega (arith, ap (λ v. byte_of v.text) q)
 
 -- what sizes of arrays print behind the first bracket
 abbrev pub sizes_inside : Option Exp → List (Option Exp) → List Sign → List Sign
@@ -125,19 +129,19 @@ flat_params-before xs more us = ap (λ v. v ++ us) (flat_suffix-Params xs more)
 
 pub suffix_first : {types inner : List (List ℕ)} {suffix : Suffix} (us : List Sign) → IsSuffix types suffix inner → EndsDeclarator us → NoStarFirst (flat_suffix suffix ++ us)
 suffix_first us (no_parameters types suffix plain) e = subst NoStarFirst (sym (ap (λ v. v ++ us) flat_suffix-Plain)) (ended_first us e)
-suffix_first us (no_parameters types suffix (arrays size sizes w)) e = record { text = codes "["; behind = sizes_inside size sizes us; first = flat_arrays-before size sizes us; other = λ q. cc }
-suffix_first us (parameters types xs inner w) e = record { text = codes "("; behind = params_inside xs false us; first = flat_params-before xs false us; other = λ q. cc }
-suffix_first us (more_parameters types x xs inner w) e = record { text = codes "("; behind = params_inside (x ∷ xs) true us; first = flat_params-before (x ∷ xs) true us; other = λ q. cc }
+suffix_first us (no_parameters types suffix (arrays size sizes w)) e = record { text = codes "["; behind = sizes_inside size sizes us; first = flat_arrays-before size sizes us; other = λ q. omega (arith, ap byte_of q) }
+suffix_first us (parameters types xs inner w) e = record { text = codes "("; behind = params_inside xs false us; first = flat_params-before xs false us; other = λ q. omega (arith, ap byte_of q) }
+suffix_first us (more_parameters types x xs inner w) e = record { text = codes "("; behind = params_inside (x ∷ xs) true us; first = flat_params-before (x ∷ xs) true us; other = λ q. omega (arith, ap byte_of q) }
 
 suffix_ends : {types inner others : List (List ℕ)} {seen : Typed} {suffix : Suffix} (us : List Sign) → IsSuffix types suffix inner → EndsSpecifiers others seen us →
     EndsSpecifiers others seen (flat_suffix suffix ++ us)
 suffix_ends {others = others} {seen = seen} us (no_parameters types suffix plain) e = subst (EndsSpecifiers others seen) (sym (ap (λ v. v ++ us) flat_suffix-Plain)) e
 suffix_ends {others = others} {seen = seen} us (no_parameters types suffix (arrays size sizes w)) e =
-    subst (EndsSpecifiers others seen) (sym (flat_arrays-before size sizes us)) (at_sign (codes "[") (sizes_inside size sizes us) (λ q. cc))
+    subst (EndsSpecifiers others seen) (sym (flat_arrays-before size sizes us)) (at_sign (codes "[") (sizes_inside size sizes us) (λ q. omega (arith, ap byte_of q)))
 suffix_ends {others = others} {seen = seen} us (parameters types xs inner w) e =
-    subst (EndsSpecifiers others seen) (sym (flat_params-before xs false us)) (at_sign (codes "(") (params_inside xs false us) (λ q. cc))
+    subst (EndsSpecifiers others seen) (sym (flat_params-before xs false us)) (at_sign (codes "(") (params_inside xs false us) (λ q. omega (arith, ap byte_of q)))
 suffix_ends {others = others} {seen = seen} us (more_parameters types x xs inner w) e =
-    subst (EndsSpecifiers others seen) (sym (flat_params-before (x ∷ xs) true us)) (at_sign (codes "(") (params_inside (x ∷ xs) true us) (λ q. cc))
+    subst (EndsSpecifiers others seen) (sym (flat_params-before (x ∷ xs) true us)) (at_sign (codes "(") (params_inside (x ∷ xs) true us) (λ q. omega (arith, ap byte_of q)))
 
 -- sizes are all sizes that stand there
 pub sizes_before_end : {types : List (List ℕ)} {sizes : List (Option Exp)} (us : List Sign) → SizesFormed types sizes → suffix_height (su.Arrays sizes) ≤ 256 → EndsDeclarator us →
@@ -207,7 +211,7 @@ suffix_no_name {name = name} us w e b = suffix_no_word us w e (name_word name _ 
 
 stars_end : {types : List (List ℕ)} {seen : Typed} (stars : List (List (List ℕ))) (rest : List Sign) → EndsSpecifiers types seen rest → EndsSpecifiers types seen (flat_map prints_star stars ++ rest)
 stars_end [] rest e = e
-stars_end (words ∷ stars) rest e = at_sign (codes "*") _ (λ q. cc)
+stars_end (words ∷ stars) rest e = at_sign (codes "*") _ (λ q. omega (arith, ap byte_of q))
 
 -- a declarator ends the specifiers before it
 pub declarator_ends : {types inner : List (List ℕ)} {seen : Typed} {name : List ℕ} {d : Declarator} → IsDeclarator types seen name d inner → (us : List Sign) →
@@ -218,8 +222,8 @@ declarator_ends (declarator types seen name stars suffix inner is are w) us =
 
 param_end : {types : List (List ℕ)} {seen : Typed} (us : List Sign) → EndsParameter us → EndsSpecifiers types seen us
 param_end [] e = absurd e
-param_end (sign ∷ ts) before_another = at_sign (codes ",") ts (λ q. cc)
-param_end (sign ∷ ts) behind_last = at_sign (codes ")") ts (λ q. cc)
+param_end (sign ∷ ts) before_another = at_sign (codes ",") ts (λ q. omega (arith, ap byte_of q))
+param_end (sign ∷ ts) behind_last = at_sign (codes ")") ts (λ q. omega (arith, ap byte_of q))
 
 -- what may stand behind a parameter may stand behind a declarator
 pub parameter_end : (us : List Sign) → EndsParameter us → EndsDeclarator us

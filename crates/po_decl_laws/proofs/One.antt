@@ -15,7 +15,7 @@ use Rattle.po_tree.specs.Signs.{Sign, word, comma, semicolon, brace, brace_end}
 use Rattle.po_tree.specs.Heights.{specifier_height, suffix_height, declarator_height, greatest}
 use Rattle.po_tree.specs.Printing.{flat_specifier, flat_suffix, flat_declarator, optional}
 use Rattle.po_tree.specs.Layers.{flat_specifier-Word, flat_specifier-Named, flat_specifier-struct, flat_specifier-enum, flat_suffix-Plain}
-use Rattle.po_tree.specs.Expressions.{Typed, untyped, by_words, by_name, plain, arrays}
+use Rattle.po_tree.specs.Expressions.{Typed, untyped, by_words, by_name, SuffixFormed, plain, arrays}
 use Rattle.po_tree.specs.Declarations as de
 use Rattle.po_tree.specs.Declarations.{without, Specs, Members, AllDeclarators, IsDeclarator, IsSuffix, Params, IsParameter, IsTag}
 use Rattle.po_exp_read.specs.TypeWords.{Begins, BeginsWord}
@@ -107,6 +107,10 @@ suffix_kind (de.no_parameters types suffix (arrays size sizes w)) = 1
 suffix_kind (de.parameters types xs inner w) = 2
 suffix_kind (de.more_parameters types x xs inner w) = 2
 
+formed_kind : {types : List (List ℕ)} {suffix : Suffix} → (w : SuffixFormed types suffix) → suffix_kind (de.no_parameters types suffix w) ≤ 1
+formed_kind plain = omega arith
+formed_kind (arrays size sizes w) = omega arith
+
 end_begins_none : (us : List Sign) → EndsDeclarator us → suffix_begun us ≡ 0
 end_begins_none [] e = absurd e
 end_begins_none (sign ∷ ts) fr.at_comma = refl
@@ -132,6 +136,14 @@ params_again more more' us vs (de.one_more_param types own inner final seen x re
     absurd (params_none more' vs (some_specs_word _ some w) (sym q ∙ params_first x rest more us))
 params_again more more' us vs (de.one_more_param types own inner final seen x rest some w p v) (de.one_more_param types' own' inner' final' seen' y rest' some' w' p' v') q = ap (λ z. comma ∷ z) q
 
+params_begin : {types inner after : List (List ℕ)} {xs ys : List Param} (more more' : Bool) (us vs : List Sign) → Params types xs inner → Params types ys after →
+    flat_suffix (su.Params xs more) ++ us ≡ flat_suffix (su.Params ys more') ++ vs → params_behind xs more us ≡ params_behind ys more' vs
+params_begin {xs = xs} {ys = ys} more more' us vs w v q = params_again more more' us vs w v (tails (sym (flat_params-front xs more us) ∙ q ∙ flat_params-front ys more' vs))
+
+lists_same : {inner after : List (List ℕ)} {xs ys : List Param} {more more' : Bool} {us vs : List Sign} → (xs ≡ ys) × (more ≡ more') × (inner ≡ after) × (us ≡ vs) →
+    Same (su.Params xs more) (su.Params ys more') inner after us vs
+lists_same {ys = ys} {more = more} r = record { trees_same = ap (λ z. su.Params z more) r.0 ∙ ap (su.Params ys) r.1; types_same = r.2; left_same = r.3 }
+
 -- declarators
 
 abbrev declarator_of : List (List (List ℕ)) → Option (List ℕ) → Suffix → Declarator
@@ -142,17 +154,17 @@ declarator_same : {stars stars' : List (List (List ℕ))} {name name' : Option (
 declarator_same {stars' = stars'} {name = name} {name' = name'} {suffix = suffix} p q r =
     ap (λ z. declarator_of z name suffix) p ∙ ap (λ z. declarator_of stars' z suffix) q ∙ ap (λ z. declarator_of stars' name' z) r
 
-declarator_named : {types inner : List (List ℕ)} {seen : Typed} {name : List ℕ} {d : Declarator} → IsDeclarator types seen name d inner → d.name ≡ Some name
+pub declarator_named : {types inner : List (List ℕ)} {seen : Typed} {name : List ℕ} {d : Declarator} → IsDeclarator types seen name d inner → d.name ≡ Some name
 declarator_named (de.declarator types seen name stars suffix inner is are w) = refl
 
-some_same : {name other : List ℕ} {d e : Declarator} → d ≡ e → d.name ≡ Some name → e.name ≡ Some other → name ≡ other
+pub some_same : {name other : List ℕ} {d e : Declarator} → d ≡ e → d.name ≡ Some name → e.name ≡ Some other → name ≡ other
 some_same {name = name} {other = other} q r s = let names : Some name ≡ Some other = sym r ∙ ap (λ d. d.name) q ∙ s in cc
 
 -- the stars of a declarator with a word, and of one without: not the same signs
-unnamed_again : {types inner after : List (List ℕ)} {seen : Typed} {name : List ℕ} {d : Declarator} {stars : List (List (List ℕ))} {suffix : Suffix} (us vs : List Sign) →
+unnamed_again : {types inner after : List (List ℕ)} {seen : Typed} {name : List ℕ} {d : Declarator} {suffix : Suffix} (stars : List (List (List ℕ))) (us vs : List Sign) →
     IsDeclarator types seen name d inner → de.AreStars stars → IsSuffix types suffix after → EndsDeclarator vs →
     flat_declarator d ++ us ≡ flat_declarator (record { stars = stars; name = None; suffix = suffix }) ++ vs → ⊥
-unnamed_again {name = name} {d = d} us vs w are v f q =
+unnamed_again {name = name} {d = d} stars us vs w are v f q =
     let s = stars_same (subst (λ z. StarsRead z d.stars (word name ∷ (flat_suffix d.suffix ++ us))) q (declarator_stars us w)) (unnamed_stars vs are v f) in
     suffix_no_word vs v f (subst BeginsWord s.1 refl)
 
@@ -244,20 +256,26 @@ mutual
   one_suffix (de.no_parameters types suffix (arrays size sizes w)) (de.no_parameters types' suffix' (arrays size' sizes' w')) low low' us vs q e f =
       let s = sizes_same (subst (λ v. SizesRead types v (size ∷ sizes) us) q (sizes_before_end us w low e)) (sizes_before_end vs w' low' f) in
       record { trees_same = ap su.Arrays s.0; types_same = refl; left_same = s.1 }
-  one_suffix (de.parameters types xs inner w) (de.parameters types' ys after w') low low' us vs q e f = one_list false false w w' low low' us vs q
-  one_suffix (de.parameters types xs inner w) (de.more_parameters types' y ys after w') low low' us vs q e f = one_list false true w w' low low' us vs q
-  one_suffix (de.more_parameters types x xs inner w) (de.parameters types' ys after w') low low' us vs q e f = one_list true false w w' low low' us vs q
-  one_suffix (de.more_parameters types x xs inner w) (de.more_parameters types' y ys after w') low low' us vs q e f = one_list true true w w' low low' us vs q
-  one_suffix w v low low' us vs q e f = absurd (omega (arith, suffix_told us w e, suffix_told vs v f, ap suffix_begun q))
-
-  one_list : {types inner after : List (List ℕ)} {xs ys : List Param} (more more' : Bool) → Params types xs inner → Params types ys after → suffix_height (su.Params xs more) ≤ 256 → suffix_height (su.Params ys more') ≤ 256 →
-      (us vs : List Sign) → flat_suffix (su.Params xs more) ++ us ≡ flat_suffix (su.Params ys more') ++ vs → Same (su.Params xs more) (su.Params ys more') inner after us vs
-  one_list {xs = xs} {ys = ys} more more' w w' low low' us vs q =
-      let h = suffix_height-Params xs more in
-      let h' = suffix_height-Params ys more' in
-      let r = one_params more more' w w' (omega (arith, h, low)) (omega (arith, h', low')) us vs
-      (params_again more more' us vs w w' (tails (sym (flat_params-front xs more us) ∙ q ∙ flat_params-front ys more' vs))) in
-      record { trees_same = ap (λ z. su.Params z more) r.0 ∙ ap (su.Params ys) r.1; types_same = r.2; left_same = r.3 }
+  one_suffix (de.parameters types xs inner w) (de.parameters types' ys after w') low low' us vs q e f =
+      lists_same (one_params false false w w' (omega (arith, suffix_height-Params xs false, low)) (omega (arith, suffix_height-Params ys false, low')) us vs (params_begin false false us vs w w' q))
+  one_suffix (de.parameters types xs inner w) (de.more_parameters types' y ys after w') low low' us vs q e f =
+      lists_same (one_params false true w w' (omega (arith, suffix_height-Params xs false, low)) (omega (arith, suffix_height-Params (y ∷ ys) true, low')) us vs (params_begin false true us vs w w' q))
+  one_suffix (de.more_parameters types x xs inner w) (de.parameters types' ys after w') low low' us vs q e f =
+      lists_same (one_params true false w w' (omega (arith, suffix_height-Params (x ∷ xs) true, low)) (omega (arith, suffix_height-Params ys false, low')) us vs (params_begin true false us vs w w' q))
+  one_suffix (de.more_parameters types x xs inner w) (de.more_parameters types' y ys after w') low low' us vs q e f =
+      lists_same (one_params true true w w' (omega (arith, suffix_height-Params (x ∷ xs) true, low)) (omega (arith, suffix_height-Params (y ∷ ys) true, low')) us vs (params_begin true true us vs w w' q))
+  one_suffix (de.no_parameters types suffix plain) (de.no_parameters types' suffix' (arrays size' sizes' w')) low low' us vs q e f =
+      absurd (omega (arith, suffix_told us (de.no_parameters types suffix plain) e, suffix_told vs (de.no_parameters types' suffix' (arrays size' sizes' w')) f, ap suffix_begun q))
+  one_suffix (de.no_parameters types suffix (arrays size sizes w)) (de.no_parameters types' suffix' plain) low low' us vs q e f =
+      absurd (omega (arith, suffix_told us (de.no_parameters types suffix (arrays size sizes w)) e, suffix_told vs (de.no_parameters types' suffix' plain) f, ap suffix_begun q))
+  one_suffix (de.no_parameters types suffix w) (de.parameters types' ys after w') low low' us vs q e f =
+      absurd (omega (arith, formed_kind w, suffix_told us (de.no_parameters types suffix w) e, suffix_told vs (de.parameters types' ys after w') f, ap suffix_begun q))
+  one_suffix (de.no_parameters types suffix w) (de.more_parameters types' y ys after w') low low' us vs q e f =
+      absurd (omega (arith, formed_kind w, suffix_told us (de.no_parameters types suffix w) e, suffix_told vs (de.more_parameters types' y ys after w') f, ap suffix_begun q))
+  one_suffix (de.parameters types xs inner w) (de.no_parameters types' suffix' w') low low' us vs q e f =
+      absurd (omega (arith, formed_kind w', suffix_told us (de.parameters types xs inner w) e, suffix_told vs (de.no_parameters types' suffix' w') f, ap suffix_begun q))
+  one_suffix (de.more_parameters types x xs inner w) (de.no_parameters types' suffix' w') low low' us vs q e f =
+      absurd (omega (arith, formed_kind w', suffix_told us (de.more_parameters types x xs inner w) e, suffix_told vs (de.no_parameters types' suffix' w') f, ap suffix_begun q))
 
   pub one_params : {types inner after : List (List ℕ)} {xs ys : List Param} (more more' : Bool) → Params types xs inner → Params types ys after → greatest (map param_height xs) ≤ 256 → greatest (map param_height ys) ≤ 256 →
       (us vs : List Sign) → params_behind xs more us ≡ params_behind ys more' vs → (xs ≡ ys) × (more ≡ more') × (inner ≡ after) × (us ≡ vs)
@@ -280,8 +298,8 @@ mutual
   one_parameter (de.named types seen name d inner w) (de.named types' seen' name' d' inner' w') low low' us vs q e f =
       let s = one_declarator w w' low low' us vs q (parameter_end us e) (parameter_end vs f) in
       record { trees_same = s.trees_same; types_same = ap (λ z. without z types) (some_same s.trees_same (declarator_named w) (declarator_named w')); left_same = s.left_same }
-  one_parameter (de.named types seen name d inner w) (de.unnamed types' seen' stars suffix inner' are w') low low' us vs q e f = absurd (unnamed_again us vs w are w' (parameter_end vs f) q)
-  one_parameter (de.unnamed types seen stars suffix inner are w) (de.named types' seen' name d inner' w') low low' us vs q e f = absurd (unnamed_again vs us w' are w (parameter_end us e) (sym q))
+  one_parameter (de.named types seen name d inner w) (de.unnamed types' seen' stars suffix inner' are w') low low' us vs q e f = absurd (unnamed_again stars us vs w are w' (parameter_end vs f) q)
+  one_parameter (de.unnamed types seen stars suffix inner are w) (de.named types' seen' name d inner' w') low low' us vs q e f = absurd (unnamed_again stars vs us w' are w (parameter_end us e) (sym q))
   one_parameter (de.unnamed types seen stars suffix inner are w) (de.unnamed types' seen' stars' suffix' inner' are' w') low low' us vs q e f =
       let s = stars_same (subst (λ z. StarsRead z stars (flat_suffix suffix ++ us)) q (unnamed_stars us are w (parameter_end us e))) (unnamed_stars vs are' w' (parameter_end vs f)) in
       let h = declarator_height-all stars None suffix in

@@ -16,7 +16,7 @@ use Rattle.po_init_read.specs.Initialisers.{BeginsEnd}
 use Rattle.po_init_read.proofs.One.{one_ended}
 use Rattle.po_decl_laws.specs.Fronts as fr
 use Rattle.po_decl_laws.specs.Fronts.{EndsSpecifiers, at_sign}
-use Rattle.po_decl_laws.proofs.Fronts.{punct_word, flat_declarator-before, declarator_ends}
+use Rattle.po_decl_laws.proofs.Fronts.{byte_of, punct_word, flat_declarator-before, declarator_ends}
 use Rattle.po_decl_laws.proofs.Behind.{tails, first_byte, no_word_first, some_specs_word, parts_behind, parts_front, part_first, initialised_first, parts_end, flat_decl-before}
 use Rattle.po_decl_laws.proofs.One.{Same, one_specs, one_declarator, declarator_named, some_same}
 
@@ -44,12 +44,18 @@ parts_no_semicolon : {specs : List Specifier} {seen : Typed} {types final : List
 parts_no_semicolon us vs (part types params inner types' name d rest w c v) q = declarator_no_semicolon _ vs w (sym (part_first d rest us) ∙ q)
 parts_no_semicolon us vs (initialised types params inner types' name d x rest w c i v) q = declarator_no_semicolon _ vs w (sym (initialised_first d x rest us) ∙ q)
 
+-- a declarator at the front ends the specifiers before it
+declarator_ends_at : {types inner : List (List ℕ)} {seen : Typed} {name : List ℕ} {d : Declarator} {front : List Sign} (behind : List Sign) → IsDeclarator types seen name d inner →
+    front ≡ flat_declarator d ++ behind → EndsSpecifiers types seen front
+declarator_ends_at {types = types} {seen = seen} behind w q = subst (EndsSpecifiers types seen) (sym q) (declarator_ends w behind)
+
 -- they end the specifiers before them
 pub parts_end_specs : {specs : List Specifier} {seen : Typed} {types final : List (List ℕ)} {ps : List (Declarator × Option Init)} (us : List Sign) → Parts specs seen types ps final →
     EndsSpecifiers types seen (parts_front ps us)
-parts_end_specs us (no_more_parts types) = at_sign (codes ";") us (λ q. cc)
-parts_end_specs {seen = seen} us (part types params inner types' name d rest w c v) = subst (EndsSpecifiers types seen) (sym (part_first d rest us)) (declarator_ends w _)
-parts_end_specs {seen = seen} us (initialised types params inner types' name d x rest w c i v) = subst (EndsSpecifiers types seen) (sym (initialised_first d x rest us)) (declarator_ends w _)
+parts_end_specs us (no_more_parts types) = at_sign (codes ";") us (λ q. omega (arith, ap byte_of q))
+parts_end_specs us (part types params inner types' name d rest w c v) = declarator_ends_at (parts_behind rest us) w (part_first d rest us)
+parts_end_specs us (initialised types params inner types' name d x rest w c i v) =
+    declarator_ends_at (equals ∷ (flat_init x ++ parts_behind rest us)) w (initialised_first d x rest us)
 
 parts_again : {specs : List Specifier} {seen : Typed} {types final last : List (List ℕ)} (ps rs : List (Declarator × Option Init)) (us vs : List Sign) → Parts specs seen types ps final → Parts specs seen types rs last →
     parts_front ps us ≡ parts_front rs vs → parts_behind ps us ≡ parts_behind rs vs
