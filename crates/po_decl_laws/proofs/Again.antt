@@ -10,13 +10,13 @@ use Rattle.po_tree.specs.Printing.{flat_specifier, optional}
 use Rattle.po_tree.specs.Expressions.{Typed, by_name}
 use Rattle.po_tree.specs.Declarations as de
 use Rattle.po_tree.specs.Declarations.{Specs, IsTag, Members}
-use Rattle.po_exp_read.specs.TypeWords.{Begins}
+use Rattle.po_exp_parts.specs.Places.{Begins}
 use Rattle.po_decl_parts.specs.Printed.{BeginsSpecifiers}
 use Rattle.po_decl_parts.specs.Specifiers.{SpecifierStands, TagRead, no_tag, tagged, NoTag, Opens}
 use Rattle.po_decl_parts.proofs.FirstWords.{stands_one, stands_reads, no_struct, tag_open, tag_same}
 use Rattle.po_decl_parts.proofs.Printed.{enclosed}
 use Rattle.po_decl_parts.proofs.PrintedSpecifiers.{specifier_complete}
-use Rattle.po_decl_parts.proofs.Standing.{same_word}
+use Rattle.po_exp_parts.proofs.SameSigns.{same_word}
 use Rattle.po_decl_laws.specs.Parts.{flat_member, member_height, specs_height}
 use Rattle.po_decl_laws.specs.Fronts.{EndsSpecifiers}
 use Rattle.po_decl_laws.proofs.Layers.{flat_specifier-members, specifier_height-members}

@@ -12,7 +12,7 @@ use Rattle.po_tree.specs.Printing.{flat_specifier, optional, in_braces}
 use Rattle.po_tree.specs.Layers.{flat_specifier-Word, flat_specifier-Named, flat_specifier-struct, flat_specifier-enum}
 use Rattle.po_tree.specs.Expressions.{Typed, untyped, by_name}
 use Rattle.po_tree.specs.Declarations.{Specs, no_more_specs, storage_class, inline_word, qualifier, type_word, typedef_name, struct_tag, struct_body, enum_tag, enum_body, IsTag, Members}
-use Rattle.po_exp_read.specs.TypeWords.{Begins, BeginsWord}
+use Rattle.po_exp_parts.specs.Places.{Begins, BeginsWord}
 use Rattle.po_decl_parts.specs.Printed.{BeginsSpecifiers, HasMembers}
 use Rattle.po_decl_parts.proofs.PrintedSpecifiers.{flat_specifier-body, specifier_complete}
 use Rattle.po_decl_laws.specs.Parts.{flat_member, specs_height}

@@ -12,7 +12,7 @@ use Rattle.po_tree.specs.Signs.{Sign, word, punct, comma, semicolon, opening, cl
 use Rattle.po_tree.specs.Printing.{flat_specifier, flat_suffix, flat_declarator, flat_init, flat_part, flat_decl, with_commas, after_commas, parenthesised}
 use Rattle.po_tree.specs.Expressions.{Typed}
 use Rattle.po_tree.specs.Declarations.{Specs, AllDeclarators, no_more_declarators, one_more_declarator}
-use Rattle.po_exp_read.specs.TypeWords.{BeginsWord}
+use Rattle.po_exp_parts.specs.Places.{BeginsWord}
 use Rattle.po_decl_laws.specs.Parts.{flat_member, flat_param}
 use Rattle.po_decl_laws.specs.Fronts.{EndsSpecifiers, EndsDeclarator, EndsParameter, at_comma, at_semicolon, before_another, behind_last}
 use Rattle.po_decl_laws.proofs.Layers.{flat_suffix-Params}

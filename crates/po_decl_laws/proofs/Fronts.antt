@@ -15,16 +15,16 @@ use Rattle.po_tree.specs.Printing.{flat, flat_suffix, flat_declarator, prints_st
 use Rattle.po_tree.specs.Layers.{flat_suffix-Plain, flat_suffix-Arrays, suffix_height-Arrays}
 use Rattle.po_tree.specs.Expressions.{Typed, untyped, by_words, by_name, SizesFormed, plain, arrays}
 use Rattle.po_tree.specs.Declarations.{AreStars, IsDeclared, IsDeclarator, declarator, IsSuffix, no_parameters, parameters, more_parameters, IsParameter, named, unnamed}
-use Rattle.po_exp_read.specs.OneSpecifier.{BeginsName}
-use Rattle.po_exp_read.specs.TypeWords.{Begins, BeginsWord}
-use Rattle.po_exp_read.proofs.Keywords.{within, found_among, qualifier_name}
+use Rattle.po_exp_parts.specs.Places.{BeginsName, Begins, BeginsWord, BeginsQualifier}
+use Rattle.po_exp_parts.proofs.Keywords.{within, found_among, qualifier_name}
 use Rattle.po_decl_parts.specs.Printed.{NoQualifierBehind, flat_sizes}
 use Rattle.po_decl_parts.specs.Sizes.{SizesRead}
 use Rattle.po_decl_parts.specs.Specifiers.{SpecifierRead, NoSpecifier, Opens, IsSpecifierWord, by_storage_class, by_inline, by_qualifier, by_type}
-use Rattle.po_decl_parts.specs.Stars.{BeginsQualifier, StarsRead}
+use Rattle.po_exp_parts.specs.Stars.{StarsRead}
 use Rattle.po_decl_parts.proofs.FirstWords.{no_name, no_typed, stands_reads}
 use Rattle.po_decl_parts.proofs.Printed.{stars_complete, sizes_complete}
-use Rattle.po_decl_parts.proofs.Standing.{same_word, name_word}
+use Rattle.po_exp_parts.proofs.SameSigns.{same_word}
+use Rattle.po_exp_parts.proofs.RangePlaces.{name_word}
 use Rattle.po_decl_laws.specs.Parts.{flat_param}
 use Rattle.po_decl_laws.specs.Fronts.{EndsSpecifiers, at_sign, at_word, IsDeclaratorEnd, at_comma, at_semicolon, at_closing, at_equals, at_colon, at_brace, EndsDeclarator, IsParameterEnd, before_another, behind_last, EndsParameter}
 use Rattle.po_decl_laws.proofs.Layers.{flat_suffix-Params, flat_declarator-all}

@@ -1,8 +1,7 @@
 -- Of two lists of specifiers, members, declarators or parameters that the same signs print, with what may stand behind each, one is the other.
 use Rattle.std.proofs.Common.{◌≡◌, ◌∙◌, ℕ, ◌≤◌, List, [], ◌∷◌, ◌++◌, map, flat_map, Bool, true, false, refl, sym, ap, subst, arith, append_assoc, codes}
-use Rattle.std.specs.Prelude.{Option, Some, None}
+use Rattle.std.specs.Prelude.{Option, Some, None, cond, nat_eq}
 use Rattle.std.specs.Str.{bytes_eq}
-use Rattle.std.specs.Prelude.{cond, nat_eq}
 use Rattle.po_tree.specs.declared.expression.Exp.{Exp}
 use Rattle.po_tree.specs.declared.expression.Specifier.{Specifier}
 use Rattle.po_tree.specs.declared.expression.Specifier.TheVariants as sp
@@ -18,17 +17,17 @@ use Rattle.po_tree.specs.Layers.{flat_specifier-Word, flat_specifier-Named, flat
 use Rattle.po_tree.specs.Expressions.{Typed, untyped, by_words, by_name, SuffixFormed, plain, arrays}
 use Rattle.po_tree.specs.Declarations as de
 use Rattle.po_tree.specs.Declarations.{without, Specs, Members, AllDeclarators, IsDeclarator, IsSuffix, Params, IsParameter, IsTag}
-use Rattle.po_exp_read.specs.TypeWords.{Begins, BeginsWord}
+use Rattle.po_exp_parts.specs.Places.{Begins, BeginsWord}
 use Rattle.po_decl_parts.specs.Enumerators.{flat_enumerators}
 use Rattle.po_decl_parts.specs.Sizes.{SizesRead}
 use Rattle.po_decl_parts.specs.Specifiers.{SpecifierStands, storage_class, inline_word, qualifier, type_word, typedef_name, struct_tag, enum_tag, enum_body}
-use Rattle.po_decl_parts.specs.Stars.{StarsRead}
+use Rattle.po_exp_parts.specs.Stars.{StarsRead}
 use Rattle.po_decl_parts.proofs.Bracketed.{sizes_same}
 use Rattle.po_decl_parts.proofs.FirstWords.{stands_at_word}
 use Rattle.po_decl_parts.proofs.Printed.{enclosed, items_complete}
 use Rattle.po_decl_parts.proofs.PrintedSpecifiers.{flat_specifier-body, specifier_height-body, specifier_complete}
-use Rattle.po_decl_parts.proofs.Standing.{same_word}
-use Rattle.po_decl_parts.proofs.Starred.{stars_same}
+use Rattle.po_exp_parts.proofs.SameSigns.{same_word}
+use Rattle.po_exp_parts.proofs.Starred.{stars_same}
 use Rattle.po_decl_laws.specs.Parts.{flat_member, flat_param, member_height, param_height, specs_height}
 use Rattle.po_decl_laws.specs.Fronts as fr
 use Rattle.po_decl_laws.specs.Fronts.{EndsSpecifiers, EndsDeclarator, EndsParameter}

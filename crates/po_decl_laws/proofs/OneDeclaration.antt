@@ -10,9 +10,8 @@ use Rattle.po_tree.specs.Heights.{decl_height, part_height, greatest}
 use Rattle.po_tree.specs.Printing.{flat_specifier, flat_declarator, flat_init, flat_decl, prints_star}
 use Rattle.po_tree.specs.Expressions.{Typed}
 use Rattle.po_tree.specs.Declarations.{IsDeclarator, declarator, IsInit, Declares, new_type, other, Parts, no_more_parts, part, initialised, Declared, declared, IsPiece, lone, declaration, IsDeclaration}
-use Rattle.po_exp_read.specs.Longest.{at_comma, at_semicolon}
+use Rattle.po_exp_parts.specs.Places.{at_comma, at_semicolon, BeginsEnd}
 use Rattle.po_exp_read.proofs.Longest.{one_before_end}
-use Rattle.po_init_read.specs.Initialisers.{BeginsEnd}
 use Rattle.po_init_read.proofs.One.{one_ended}
 use Rattle.po_decl_laws.specs.Fronts as fr
 use Rattle.po_decl_laws.specs.Fronts.{EndsSpecifiers, at_sign}

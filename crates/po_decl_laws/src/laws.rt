@@ -1,5 +1,4 @@
-ghost use Rattle.std.specs.Prelude.{ℕ, ◌≡◌, ◌≤◌, ◌∷◌, ◌++◌, map, flat_map, Bool, Option as Maybe};
-ghost use Rattle.std.specs.Prelude.{List as Sequence};
+ghost use Rattle.std.specs.Prelude.{ℕ, ◌≡◌, ◌≤◌, ◌∷◌, ◌++◌, map, flat_map, Bool, Option as Maybe, List as Sequence};
 ghost use Rattle.po_tree.specs.declared.declaration.Decl.{Decl as Declaration};
 ghost use Rattle.po_tree.specs.declared.expression.Declarator.{Declarator};
 ghost use Rattle.po_tree.specs.declared.expression.Specifier.{Specifier as Spec};
