@@ -1,0 +1,9 @@
+pub mod Fitting
+pub mod Specifiers
+pub mod Members
+pub mod Declarators
+pub mod Parameters
+pub mod Declarations
+pub mod AmongSpecifiers
+pub mod AtDeclarators
+pub mod BehindDeclarators
