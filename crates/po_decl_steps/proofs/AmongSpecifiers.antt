@@ -21,14 +21,14 @@ use Rattle.po_decl_steps.specs.declared.levels.Owner.TheVariants as owner
 use Rattle.po_decl_steps.specs.declared.levels.Level.{Level}
 use Rattle.po_decl_steps.specs.declared.levels.Focus.TheVariants as focus
 use Rattle.po_decl_steps.specs.Standing.{DeclarationStands}
-use Rattle.po_decl_steps.specs.Completing.{Completes, Inner, GoesOn, Outside, is_outer}
+use Rattle.po_decl_steps.specs.Completing.{Completes, Inner, BehindSpecifiers, Outside, is_outer}
 use Rattle.po_decl_steps.specs.Steps.{Alike, NoBody}
 use Rattle.po_decl_steps.proofs.Fitting.{goes_on_ends}
 use Rattle.po_decl_steps.proofs.Specifiers.{Ends, specifier_forth, specifier_back, end_forth, end_back, no_specifier}
 use Rattle.po_decl_steps.proofs.Members.{member_forth, member_back, member_word, word_no_brace, open_forth, open_back}
 use Rattle.po_decl_steps.proofs.Declarations.{want_forth, want_back, whole_one, begin_forth, begin_back}
 
-ends_of : (Out : Inner → List Sign → Type 0) (y : Decl) (left : List Sign) (w : Owner) → Ends (GoesOn Out y left w)
+ends_of : (Out : Inner → List Sign → Type 0) (y : Decl) (left : List Sign) (w : Owner) → Ends (BehindSpecifiers Out y left w)
 ends_of Out y left w specs seen types us g = goes_on_ends Out y left specs w g
 
 -- one more specifier is read
@@ -73,7 +73,7 @@ param_wants below outers {specs = specs} seen stars word params ends some = reco
   back = λ y left d. end_back specs (some, d);
 }
 
-goes_on_some : (Out : Inner → List Sign → Type 0) (y : Decl) (left : List Sign) {specs : List Specifier} (seen : Typed) (types : List (List ℕ)) (ts : List Sign) (w : Owner) → GoesOn Out y left w specs seen types ts → specs ≢ []
+goes_on_some : (Out : Inner → List Sign → Type 0) (y : Decl) (left : List Sign) {specs : List Specifier} (seen : Typed) (types : List (List ℕ)) (ts : List Sign) (w : Owner) → BehindSpecifiers Out y left w specs seen types ts → specs ≢ []
 goes_on_some Out y left seen types ts (owner.Declaration typedef parts) g = g.0
 goes_on_some Out y left seen types ts (owner.Member tag members declarators) g = g.0
 goes_on_some Out y left seen types ts (owner.Param stars word params) g = g.0

@@ -17,13 +17,13 @@ use Rattle.po_decl_steps.specs.declared.levels.Owner.{Owner}
 use Rattle.po_decl_steps.specs.declared.levels.Owner.TheVariants as owner
 use Rattle.po_decl_steps.specs.declared.levels.Level.{Level}
 use Rattle.po_decl_steps.specs.declared.levels.Focus.TheVariants as focus
-use Rattle.po_decl_steps.specs.Completing.{Completes, Inner, GoesOnBehind, Outside, is_parameter}
+use Rattle.po_decl_steps.specs.Completing.{Completes, Inner, BehindDeclarator, Outside, is_parameter}
 use Rattle.po_decl_steps.specs.Steps.{Alike, WordWanted, SuffixWanted}
 use Rattle.po_decl_steps.proofs.Fitting.{behind_ends}
 use Rattle.po_decl_steps.proofs.Declarators.{EndsBehind, stars_forth, stars_back, word_forth, word_back, missing_forth, missing_back, sizes_forth, sizes_back, no_sizes}
 use Rattle.po_decl_steps.proofs.Parameters.{with_list, empty_forth, empty_back, list_forth, list_back, param_forth, param_back}
 
-ends_behind : (Out : Inner → List Sign → Type 0) (y : Decl) (left : List Sign) (specs : List Specifier) (seen : Typed) (types : List (List ℕ)) (w : Owner) → EndsBehind (GoesOnBehind Out y left w specs seen types)
+ends_behind : (Out : Inner → List Sign → Type 0) (y : Decl) (left : List Sign) (specs : List Specifier) (seen : Typed) (types : List (List ℕ)) (w : Owner) → EndsBehind (BehindDeclarator Out y left w specs seen types)
 ends_behind Out y left specs seen types w item us g = behind_ends Out y left specs seen types item us w g
 
 pub stars_alike : (below : List Level) (l : Level) (outers : List (List (List ℕ))) {types : List (List ℕ)} {stars : List (List (List ℕ))} {ts us : List Sign} → StarsRead ts stars us →

@@ -17,7 +17,7 @@ use Rattle.po_decl_laws.specs.Parts.{specs_height}
 use Rattle.po_decl_laws.proofs.Fronts.{punct_word, flat_declarator-before}
 use Rattle.po_decl_steps.specs.declared.levels.Owner.TheVariants as owner
 use Rattle.po_decl_steps.specs.Standing.{DeclarationStands}
-use Rattle.po_decl_steps.specs.Completing.{SpecsThen, DeclaratorThen, DeclaratorFits, PartsThen, ValueThen, PartThen, InitFits, declares, Inner, GoesOn, GoesOnBehind}
+use Rattle.po_decl_steps.specs.Completing.{SpecsThen, DeclaratorThen, DeclaratorFits, PartsThen, ValueThen, PartThen, InitFits, declares, Inner, BehindSpecifiers, BehindDeclarator}
 use Rattle.po_decl_steps.proofs.Fitting.{declarator_of, fits_declarator}
 
 tails : {a b : Sign} {us vs : List Sign} → a ∷ us ≡ b ∷ vs → us ≡ vs
@@ -233,19 +233,19 @@ no_value {before = before} {item = item} q none v = let f = value_from before it
 -- behind the specifiers of a declaration
 
 pub want_forth : (Out : Inner → List Sign → Type 0) {y : Decl} {left : List Sign} (typedef : Bool) {flag : Bool} {parts : List (Declarator × Option Init)} {specs : List Specifier} {seen : Typed} {types : List (List ℕ)} {ts : List Sign} →
-    (Begins semicolon ts → ⊥) → IsTrue flag ↔ IsTypedef specs → GoesOn Out y left (owner.Declaration typedef parts) specs seen types ts →
-    DeclaratorThen (DeclaratorFits false types seen) (GoesOnBehind Out y left (owner.Declaration flag parts) specs seen types) ts
+    (Begins semicolon ts → ⊥) → IsTrue flag ↔ IsTypedef specs → BehindSpecifiers Out y left (owner.Declaration typedef parts) specs seen types ts →
+    DeclaratorThen (DeclaratorFits false types seen) (BehindDeclarator Out y left (owner.Declaration flag parts) specs seen types) ts
 want_forth Out typedef none h g = elim g.1 [ inl q ↦ absurd (none (subst (Begins semicolon) (sym q.0) refl)) | inr d ↦ by_flag h d.0 d.1 ]
 
 pub want_back : (Out : Inner → List Sign → Type 0) {y : Decl} {left : List Sign} (typedef : Bool) {flag : Bool} {parts : List (Declarator × Option Init)} {specs : List Specifier} {seen : Typed} {types : List (List ℕ)} {ts : List Sign} →
-    specs ≢ [] → DeclaratorThen (DeclaratorFits false types seen) (GoesOnBehind Out y left (owner.Declaration flag parts) specs seen types) ts → GoesOn Out y left (owner.Declaration typedef parts) specs seen types ts
+    specs ≢ [] → DeclaratorThen (DeclaratorFits false types seen) (BehindDeclarator Out y left (owner.Declaration flag parts) specs seen types) ts → BehindSpecifiers Out y left (owner.Declaration typedef parts) specs seen types ts
 want_back Out typedef {flag = flag} some d = (some, inr (flag, d))
 
 -- the whole declaration
 
 parts_go : (Out : Inner → List Sign → Type 0) {left : List Sign} {specs : List Specifier} {seen : Typed} {types last : List (List ℕ)} {ts : List Sign} {parts : List (Declarator × Option Init)} → specs ≢ [] →
     Parts specs seen types parts last → greatest (map part_height parts) ≤ 256 → ts ≡ with_commas (map flat_part parts) ++ (semicolon ∷ left) →
-    GoesOn Out (record { specs = specs; parts = parts }) left (owner.Declaration false []) specs seen types ts
+    BehindSpecifiers Out (record { specs = specs; parts = parts }) left (owner.Declaration false []) specs seen types ts
 parts_go Out some (no_more_parts types) low q = (some, inl (q, refl))
 parts_go Out {left = left} some (part types params inner types' name d rest is ds others) low q =
     let f = first_of {before = []} d None rest is ds tt others low (q ∙ part_printed d None rest (semicolon ∷ left)) refl in (some, inr (f.sort, f.part_stands))
@@ -259,7 +259,7 @@ decl_printed specs parts left =
     ap (λ v. flat_map flat_specifier specs ++ v) (append_assoc (with_commas (map flat_part parts)) (semicolon ∷ []) left)
 
 begun_from : (Out : Inner → List Sign → Type 0) {types behind : List (List ℕ)} {ts left : List Sign} {y : Decl} → Declared types y behind → decl_height y ≤ 256 → ts ≡ flat_decl y ++ left →
-    SpecsThen (GoesOn Out y left (owner.Declaration false [])) true true types untyped [] ts
+    SpecsThen (BehindSpecifiers Out y left (owner.Declaration false [])) true true types untyped [] ts
 begun_from Out {left = left} (declared types inner types' seen spec specs parts w p) low q = record {
   rest = spec ∷ specs;
   inner = inner;
@@ -273,7 +273,7 @@ begun_from Out {left = left} (declared types inner types' seen spec specs parts 
 
 -- what stands is what completes nothing read
 pub begin_forth : (Out : Inner → List Sign → Type 0) {types : List (List ℕ)} {ts left : List Sign} {y : Decl} → DeclarationStands types ts y left →
-    SpecsThen (GoesOn Out y left (owner.Declaration false [])) true true types untyped [] ts
+    SpecsThen (BehindSpecifiers Out y left (owner.Declaration false [])) true true types untyped [] ts
 begin_forth Out d = begun_from Out d.formed d.nested d.printed
 
 whole_from : {types inner last : List (List ℕ)} {seen : Typed} {ts left : List Sign} (specs : List Specifier) (parts : List (Declarator × Option Init)) → specs ≢ [] → Specs true true types untyped specs inner seen → specs_height specs ≤ 256 →
@@ -288,7 +288,7 @@ whole_from {types = types} {inner = inner} {last = last} {seen = seen} {left = l
 }
 
 pub begin_back : (Out : Inner → List Sign → Type 0) {types : List (List ℕ)} {ts left : List Sign} {y : Decl} →
-    SpecsThen (GoesOn Out y left (owner.Declaration false [])) true true types untyped [] ts → DeclarationStands types ts y left
+    SpecsThen (BehindSpecifiers Out y left (owner.Declaration false [])) true true types untyped [] ts → DeclarationStands types ts y left
 begin_back Out {types = types} {ts = ts} {left = left} s =
     elim s.goes_on.1 [
       | inl h ↦ subst (λ v. DeclarationStands types ts v left) (sym h.1)
@@ -318,5 +318,5 @@ declarator_no_semicolon us vs (declarator types seen name stars suffix inner h a
     no_semicolon_from stars name (flat_suffix suffix ++ us) vs (q ∙ flat_declarator-before (record { stars = stars; name = Some name; suffix = suffix }) us)
 
 pub whole_one : (Out : Inner → List Sign → Type 0) {y : Decl} {left : List Sign} (typedef : Bool) {parts : List (Declarator × Option Init)} {specs : List Specifier} {seen : Typed} {types : List (List ℕ)} {ts us : List Sign} →
-    ts ≡ semicolon ∷ us → GoesOn Out y left (owner.Declaration typedef parts) specs seen types ts → (y ≡ record { specs = specs; parts = parts }) × (left ≡ us)
+    ts ≡ semicolon ∷ us → BehindSpecifiers Out y left (owner.Declaration typedef parts) specs seen types ts → (y ≡ record { specs = specs; parts = parts }) × (left ≡ us)
 whole_one Out typedef {us = us} r g = elim g.1 [ inl q ↦ (q.1, sym (tails (sym r ∙ q.0))) | inr d ↦ absurd (declarator_no_semicolon d.1.us us (declarator_of d.1.item d.1.fits).is (sym r ∙ d.1.printed)) ]

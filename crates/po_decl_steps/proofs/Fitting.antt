@@ -15,7 +15,7 @@ use Rattle.po_decl_laws.specs.Fronts.{EndsSpecifiers, at_sign, EndsDeclarator, a
 use Rattle.po_decl_laws.proofs.Fronts.{declarator_ends, parameter_ends}
 use Rattle.po_decl_steps.specs.declared.levels.Owner.{Owner}
 use Rattle.po_decl_steps.specs.declared.levels.Owner.TheVariants as owner
-use Rattle.po_decl_steps.specs.Completing.{WordFits, DeclaratorFits, hidden, Inner, GoesOnBehind, GoesOn, PartsThen}
+use Rattle.po_decl_steps.specs.Completing.{WordFits, DeclaratorFits, hidden, Inner, BehindDeclarator, BehindSpecifiers, PartsThen}
 
 -- what fits is well formed
 
@@ -77,7 +77,7 @@ value_end None us e = e
 value_end (Some x) us e = at_equals
 
 pub behind_ends : (Out : Inner → List Sign → Type 0) (y : Decl) (left : List Sign) (specs : List Specifier) (seen : Typed) (types : List (List ℕ)) (item : Declarator) (ts : List Sign) (w : Owner) →
-    GoesOnBehind Out y left w specs seen types item ts → EndsDeclarator ts
+    BehindDeclarator Out y left w specs seen types item ts → EndsDeclarator ts
 behind_ends Out y left specs seen types item ts (owner.Declaration typedef parts) p =
     let v = p.goes_on in subst EndsDeclarator (sym v.printed) (value_end v.value v.us (parts_end v.others))
 behind_ends Out y left specs seen types item ts (owner.Member tag members declarators) p = subst EndsDeclarator (sym p.printed) (commas_end (map flat_declarator p.rest) (semicolon ∷ p.us) at_semicolon)
@@ -85,7 +85,7 @@ behind_ends Out y left specs seen types item ts (owner.Param stars word params) 
 
 -- what goes on behind specifiers begins with what ends them
 pub goes_on_ends : (Out : Inner → List Sign → Type 0) (y : Decl) (left : List Sign) (specs : List Specifier) {seen : Typed} {types : List (List ℕ)} {ts : List Sign} (w : Owner) →
-    GoesOn Out y left w specs seen types ts → EndsSpecifiers types seen ts
+    BehindSpecifiers Out y left w specs seen types ts → EndsSpecifiers types seen ts
 goes_on_ends Out y left specs {seen = seen} {types = types} (owner.Declaration typedef parts) p =
     elim p.1 [
       | inl q ↦ subst (EndsSpecifiers types seen) (sym q.0) (at_sign (codes ";") left (λ r. let bytes = ap (λ v. get_or v 0 0) r in omega arith))

@@ -19,7 +19,7 @@ use Rattle.po_decl_laws.proofs.Layers.{specifier_height-members}
 use Rattle.po_decl_laws.proofs.Beginning.{Begun, nothing, a_body, a_specifier, begun, specs_word, first_specifier}
 use Rattle.po_decl_laws.proofs.Fronts.{ends_no_opens}
 use Rattle.po_decl_steps.specs.declared.levels.Owner.TheVariants as owner
-use Rattle.po_decl_steps.specs.Completing.{SpecsThen, DeclaratorThen, DeclaratorsThen, MembersThen, DeclaratorFits, Inner, body, GoesOn}
+use Rattle.po_decl_steps.specs.Completing.{SpecsThen, DeclaratorThen, DeclaratorsThen, MembersThen, DeclaratorFits, Inner, body, BehindSpecifiers}
 use Rattle.po_decl_steps.proofs.Fitting.{declarator_of, fits_declarator}
 use Rattle.po_decl_steps.proofs.Specifiers.{Ends, body_printed, body_opens, opens_same, opens_no_specifier, tag_is, lower, higher}
 
@@ -126,7 +126,7 @@ regrouped before ms m specs d ds q r =
 member_from : (Out : Inner → List Sign → Type 0) (y : Decl) (left : List Sign) {types inner final : List (List ℕ)} {seen : Typed} {tag : Option (List ℕ)} (before : List Member) {ts : List Sign} {ds : List Declarator} (m : Member) (ms : List Member) (us : List Sign) → (out-Member m).declarators ≡ ds →
     (out-Member m).specs ≢ [] → Specs false false types untyped (out-Member m).specs inner seen → ds ≢ [] → AllDeclarators inner seen ds → Members inner ms final →
     greatest (map member_height (m ∷ ms)) ≤ 256 → ts ≡ flat_map flat_member (m ∷ ms) ++ (brace_end ∷ us) → Out (body tag (before ++ m ∷ ms) final) us →
-    SpecsThen (GoesOn Out y left (owner.Member tag before [])) false false types untyped [] ts
+    SpecsThen (BehindSpecifiers Out y left (owner.Member tag before [])) false false types untyped [] ts
 member_from Out y left before m ms us r some specs some_d (no_more_declarators types0 seen0) others low q goes = absurd (some_d refl)
 member_from Out y left {inner = inner} {final = final} {seen = seen} {tag = tag} before m ms us r some specs some_d (one_more_declarator types0 seen0 name inner0 d ds is all) others low q goes =
     let high : greatest (map declarator_height (d ∷ ds)) ≤ 256 = let e = ap (λ v. greatest (map declarator_height v)) r in omega (arith, low, e) in
@@ -168,18 +168,18 @@ member_from Out y left {inner = inner} {final = final} {seen = seen} {tag = tag}
 
 members_from : (Out : Inner → List Sign → Type 0) (y : Decl) (left : List Sign) {types final : List (List ℕ)} {tag : Option (List ℕ)} (before : List Member) {rest : List Member} {ts : List Sign} (us : List Sign) →
     (Begins brace_end ts → ⊥) → Members types rest final → greatest (map member_height rest) ≤ 256 → ts ≡ flat_map flat_member rest ++ (brace_end ∷ us) → Out (body tag (before ++ rest) final) us →
-    SpecsThen (GoesOn Out y left (owner.Member tag before [])) false false types untyped [] ts
+    SpecsThen (BehindSpecifiers Out y left (owner.Member tag before [])) false false types untyped [] ts
 members_from Out y left before us none (no_more_members types) low q goes = absurd (none (subst (Begins brace_end) (sym q) refl))
 members_from Out y left before us none (members types inner final seen m ms some specs some_d all others) low q goes =
     member_from Out y left before m ms us refl some specs some_d all others low q goes
 
 pub member_forth : (Out : Inner → List Sign → Type 0) (y : Decl) (left : List Sign) {types : List (List ℕ)} {tag : Option (List ℕ)} {before : List Member} {ts : List Sign} →
     (Begins brace_end ts → ⊥) → MembersThen (λ inside behind vs. Out (body tag inside behind) vs) types before ts →
-    SpecsThen (GoesOn Out y left (owner.Member tag before [])) false false types untyped [] ts
+    SpecsThen (BehindSpecifiers Out y left (owner.Member tag before [])) false false types untyped [] ts
 member_forth Out y left {before = before} none s = members_from Out y left before s.us none s.formed s.low s.printed s.goes_on
 
 pub member_back : (Out : Inner → List Sign → Type 0) (y : Decl) (left : List Sign) {types : List (List ℕ)} {tag : Option (List ℕ)} {before : List Member} {ts : List Sign} →
-    SpecsThen (GoesOn Out y left (owner.Member tag before [])) false false types untyped [] ts →
+    SpecsThen (BehindSpecifiers Out y left (owner.Member tag before [])) false false types untyped [] ts →
     MembersThen (λ inside behind vs. Out (body tag inside behind) vs) types before ts
 member_back Out y left {types = types} {tag = tag} {before = before} s =
     let d = s.goes_on.1 in
@@ -213,7 +213,7 @@ word_first (spec ∷ rest) us some w q = subst BeginsWord (sym (q ∙ append_ass
 
 -- it begins with a word
 pub member_word : (Out : Inner → List Sign → Type 0) (y : Decl) (left : List Sign) {types : List (List ℕ)} {tag : Option (List ℕ)} (before : List Member) {ts : List Sign} →
-    SpecsThen (GoesOn Out y left (owner.Member tag before [])) false false types untyped [] ts → BeginsWord ts
+    SpecsThen (BehindSpecifiers Out y left (owner.Member tag before [])) false false types untyped [] ts → BeginsWord ts
 member_word Out y left before s = word_first s.rest s.us s.goes_on.0 s.formed s.printed
 
 pub word_no_brace : (ts : List Sign) → BeginsWord ts → Begins brace_end ts → ⊥

@@ -20,7 +20,7 @@ use Rattle.po_decl_laws.specs.Fronts.{EndsDeclarator}
 use Rattle.po_decl_laws.proofs.Layers.{flat_suffix-Params, suffix_height-Params}
 use Rattle.po_decl_laws.proofs.Fronts.{end_no_opening, flat_arrays-before}
 use Rattle.po_decl_steps.specs.declared.levels.Owner.TheVariants as owner
-use Rattle.po_decl_steps.specs.Completing.{SpecsThen, ParamsThen, hidden, Inner, list, GoesOn}
+use Rattle.po_decl_steps.specs.Completing.{SpecsThen, ParamsThen, hidden, Inner, list, BehindSpecifiers}
 use Rattle.po_decl_steps.specs.Steps.{SuffixThen}
 use Rattle.po_decl_steps.proofs.Fitting.{parameter_of, fits_parameter}
 use Rattle.po_decl_steps.proofs.Members.{word_first}
@@ -53,7 +53,7 @@ regrouped before rest x specs d q r =
 
 param_from : (Out : Inner → List Sign → Type 0) (y : Decl) (left : List Sign) {types inner : List (List ℕ)} {stars : List (List (List ℕ))} {name : Option (List ℕ)} (before : List Param) {ts : List Sign} {x : Param} {rest : List Param} (more : Bool) (us : List Sign) → Params types (x ∷ rest) inner → greatest (map param_height (x ∷ rest)) ≤ 256 →
     ts ≡ flat_param x ++ (after_commas (map flat_param rest) ++ list_end more us) → Out (list stars name (before ++ x ∷ rest) more) us →
-    SpecsThen (GoesOn Out y left (owner.Param stars name before)) true true types untyped [] ts
+    SpecsThen (BehindSpecifiers Out y left (owner.Param stars name before)) true true types untyped [] ts
 param_from Out y left {stars = stars} {name = name} before more us (one_more_param types own inner types' seen x rest some specs is others) low q goes =
     let f = fits_parameter is in
     record {
@@ -88,11 +88,11 @@ param_from Out y left {stars = stars} {name = name} before more us (one_more_par
 
 -- a parameter begins
 pub param_forth : (Out : Inner → List Sign → Type 0) (y : Decl) (left : List Sign) {types : List (List ℕ)} {stars : List (List (List ℕ))} {name : Option (List ℕ)} {before : List Param} {ts : List Sign} →
-    FirstParam (λ all more us. Out (list stars name all more) us) types before ts → SpecsThen (GoesOn Out y left (owner.Param stars name before)) true true types untyped [] ts
+    FirstParam (λ all more us. Out (list stars name all more) us) types before ts → SpecsThen (BehindSpecifiers Out y left (owner.Param stars name before)) true true types untyped [] ts
 param_forth Out y left {stars = stars} {name = name} {before = before} p = param_from Out y left {stars = stars} {name = name} before p.more p.us p.formed p.low p.printed p.goes_on
 
 pub param_back : (Out : Inner → List Sign → Type 0) (y : Decl) (left : List Sign) {types : List (List ℕ)} {stars : List (List (List ℕ))} {name : Option (List ℕ)} {before : List Param} {ts : List Sign} →
-    SpecsThen (GoesOn Out y left (owner.Param stars name before)) true true types untyped [] ts → FirstParam (λ all more us. Out (list stars name all more) us) types before ts
+    SpecsThen (BehindSpecifiers Out y left (owner.Param stars name before)) true true types untyped [] ts → FirstParam (λ all more us. Out (list stars name all more) us) types before ts
 param_back Out y left {types = types} {stars = stars} {name = name} {before = before} s =
     let d = s.goes_on.1 in
     let ps = d.goes_on in
@@ -121,7 +121,7 @@ param_back Out y left {types = types} {stars = stars} {name = name} {before = be
 
 -- it begins with a word
 pub param_word : (Out : Inner → List Sign → Type 0) (y : Decl) (left : List Sign) {types : List (List ℕ)} {stars : List (List (List ℕ))} {name : Option (List ℕ)} (before : List Param) {ts : List Sign} →
-    SpecsThen (GoesOn Out y left (owner.Param stars name before)) true true types untyped [] ts → BeginsWord ts
+    SpecsThen (BehindSpecifiers Out y left (owner.Param stars name before)) true true types untyped [] ts → BeginsWord ts
 param_word Out y left before s = word_first s.rest s.us s.goes_on.0 s.formed s.printed
 
 formed_word : {types inner : List (List ℕ)} {x : Param} {rest : List Param} (us : List Sign) → Params types (x ∷ rest) inner → BeginsWord (flat_param x ++ us)

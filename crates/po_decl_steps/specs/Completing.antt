@@ -143,38 +143,38 @@ pub data Inner : Type 0 where
   list : List (List (List ℕ)) → Option (List ℕ) → List Param → Bool → Inner
 
 -- What goes on behind a declarator of what `owner` says, where `Outside` goes on behind what closes inside the level below.
-abbrev pub GoesOnBehind : (Inner → List Sign → Type 0) → Decl → List Sign → Owner → List Specifier → Typed → List (List ℕ) → Declarator → List Sign → Type 0
-GoesOnBehind Outside y left (owner.Declaration typedef parts) specs seen types item ts = PartThen typedef specs seen types parts item ts y left
-GoesOnBehind Outside y left (owner.Member tag members declarators) specs seen types item ts =
+abbrev pub BehindDeclarator : (Inner → List Sign → Type 0) → Decl → List Sign → Owner → List Specifier → Typed → List (List ℕ) → Declarator → List Sign → Type 0
+BehindDeclarator Outside y left (owner.Declaration typedef parts) specs seen types item ts = PartThen typedef specs seen types parts item ts y left
+BehindDeclarator Outside y left (owner.Member tag members declarators) specs seen types item ts =
     DeclaratorsThen (λ all us. MembersThen (λ inside behind vs. Outside (body tag inside behind) vs) types
     (members ++ roll-Member (record { specs = specs; declarators = all }) ∷ []) us) types seen (declarators ++ item ∷ []) ts
-GoesOnBehind Outside y left (owner.Param stars word params) specs seen types item ts =
+BehindDeclarator Outside y left (owner.Param stars word params) specs seen types item ts =
     ParamsThen (λ all more us. Outside (list stars word all more) us) (hidden item.name types) (params ++ roll-Param (record { specs = specs; declarator = item }) ∷ []) ts
 
 -- What goes on behind complete specifiers: one declarator at least, which only a declaration may lack.
-abbrev pub GoesOn : (Inner → List Sign → Type 0) → Decl → List Sign → Owner → List Specifier → Typed → List (List ℕ) → List Sign → Type 0
-GoesOn Outside y left (owner.Declaration typedef parts) specs seen types ts =
+abbrev pub BehindSpecifiers : (Inner → List Sign → Type 0) → Decl → List Sign → Owner → List Specifier → Typed → List (List ℕ) → List Sign → Type 0
+BehindSpecifiers Outside y left (owner.Declaration typedef parts) specs seen types ts =
     (specs ≢ []) × (((ts ≡ semicolon ∷ left) × (y ≡ record { specs = specs; parts = parts })) ⊎
-    ((sort : Bool) × DeclaratorThen (DeclaratorFits false types seen) (GoesOnBehind Outside y left (owner.Declaration sort parts) specs seen types) ts))
-GoesOn Outside y left (owner.Member tag members declarators) specs seen types ts =
-    (specs ≢ []) × DeclaratorThen (DeclaratorFits false types seen) (GoesOnBehind Outside y left (owner.Member tag members declarators) specs seen types) ts
-GoesOn Outside y left (owner.Param stars word params) specs seen types ts =
-    (specs ≢ []) × DeclaratorThen (DeclaratorFits true types seen) (GoesOnBehind Outside y left (owner.Param stars word params) specs seen types) ts
+    ((sort : Bool) × DeclaratorThen (DeclaratorFits false types seen) (BehindDeclarator Outside y left (owner.Declaration sort parts) specs seen types) ts))
+BehindSpecifiers Outside y left (owner.Member tag members declarators) specs seen types ts =
+    (specs ≢ []) × DeclaratorThen (DeclaratorFits false types seen) (BehindDeclarator Outside y left (owner.Member tag members declarators) specs seen types) ts
+BehindSpecifiers Outside y left (owner.Param stars word params) specs seen types ts =
+    (specs ≢ []) × DeclaratorThen (DeclaratorFits true types seen) (BehindDeclarator Outside y left (owner.Param stars word params) specs seen types) ts
 
 -- Outside y left below outers inner ts: behind what closes inside these levels, the innermost first, y is completed by the tokens at the
 -- front of ts, and `left` are left. `outers` are the typedef names in force where each open parameter list began, the innermost first.
 abbrev pub Outside : Decl → List Sign → List Level → List (List (List ℕ)) → Inner → List Sign → Type 0
 Outside y left [] outers inner ts = ⊥
 Outside y left (l ∷ below) outers (body tag members types) ts =
-    SpecsThen (GoesOn (Outside y left below outers) y left l.owner) (is_outer l.owner) l.free types by_name (l.specs ++ sp.Struct tag (Some members) ∷ []) ts
+    SpecsThen (BehindSpecifiers (Outside y left below outers) y left l.owner) (is_outer l.owner) l.free types by_name (l.specs ++ sp.Struct tag (Some members) ∷ []) ts
 Outside y left (l ∷ below) [] (list stars word params more) ts = ⊥
 Outside y left (l ∷ below) (types ∷ outers) (list stars word params more) ts =
-    GoesOnBehind (Outside y left below outers) y left l.owner l.specs (typed l.seen) types (record { stars = stars; name = word; suffix = su.Params params more }) ts
+    BehindDeclarator (Outside y left below outers) y left l.owner l.specs (typed l.seen) types (record { stars = stars; name = word; suffix = su.Params params more }) ts
 
 -- behind what was read, y is completed by the tokens at the front of ts, and `left` are left
 abbrev pub Completes : Decl → List Sign → List Level → List (List (List ℕ)) → List (List ℕ) → Level → Focus → List Sign → Type 0
 Completes y left below outers types l focus.Specifiers ts =
-    SpecsThen (GoesOn (Outside y left below outers) y left l.owner) (is_outer l.owner) l.free types (typed l.seen) l.specs ts
+    SpecsThen (BehindSpecifiers (Outside y left below outers) y left l.owner) (is_outer l.owner) l.free types (typed l.seen) l.specs ts
 Completes y left below outers types l focus.Declarator ts =
-    DeclaratorThen (DeclaratorFits (is_parameter l.owner) types (typed l.seen)) (GoesOnBehind (Outside y left below outers) y left l.owner l.specs (typed l.seen) types) ts
-Completes y left below outers types l (focus.Behind item) ts = GoesOnBehind (Outside y left below outers) y left l.owner l.specs (typed l.seen) types item ts
+    DeclaratorThen (DeclaratorFits (is_parameter l.owner) types (typed l.seen)) (BehindDeclarator (Outside y left below outers) y left l.owner l.specs (typed l.seen) types) ts
+Completes y left below outers types l (focus.Behind item) ts = BehindDeclarator (Outside y left below outers) y left l.owner l.specs (typed l.seen) types item ts

@@ -15,7 +15,7 @@ use Rattle.po_tree.specs.Declarations.{IsSuffix, IsTypedef}
 use Rattle.po_exp_parts.specs.Seen.{typed}
 use Rattle.po_decl_parts.specs.Specifiers.{Opens}
 use Rattle.po_decl_steps.specs.declared.levels.Level.{Level}
-use Rattle.po_decl_steps.specs.Completing.{WordFits, GoesOnBehind, Outside, body, list, is_parameter, MembersThen, DeclaratorsThen, ParamsThen, PartsThen, ValueThen}
+use Rattle.po_decl_steps.specs.Completing.{WordFits, BehindDeclarator, Outside, body, list, is_parameter, MembersThen, DeclaratorsThen, ParamsThen, PartsThen, ValueThen}
 
 -- what completes the one completes the other
 pub record Alike (P Q : Decl → List Sign → Type 0) : Type 0 where
@@ -52,11 +52,11 @@ NoBody seen ts = (tag : Option (List ℕ)) (us : List Sign) → seen ≡ untyped
 
 abbrev pub WordWanted : List Level → Level → List (List (List ℕ)) → List (List (List ℕ)) → List (List ℕ) → List Sign → Decl → List Sign → Type 0
 WordWanted below l stars outers types ts y left =
-    WordThen (is_parameter l.owner) types (typed l.seen) stars (GoesOnBehind (Outside y left below outers) y left l.owner l.specs (typed l.seen) types) ts
+    WordThen (is_parameter l.owner) types (typed l.seen) stars (BehindDeclarator (Outside y left below outers) y left l.owner l.specs (typed l.seen) types) ts
 
 abbrev pub SuffixWanted : List Level → Level → List (List (List ℕ)) → Option (List ℕ) → List (List (List ℕ)) → List (List ℕ) → List Sign → Decl → List Sign → Type 0
 SuffixWanted below l stars name outers types ts y left =
-    SuffixThen types stars name (GoesOnBehind (Outside y left below outers) y left l.owner l.specs (typed l.seen) types) ts
+    SuffixThen types stars name (BehindDeclarator (Outside y left below outers) y left l.owner l.specs (typed l.seen) types) ts
 
 -- What completes a part of a declaration whose word is in force, and one with its initialiser, where `typedef` says whether its words are typedef
 -- names; members, a member's declarators, and parameters.

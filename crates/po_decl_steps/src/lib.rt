@@ -13,6 +13,7 @@ pub use laws::{
     an_empty_list_ends_a_declarator, initialisers_are_read, members_follow_one_another,
     nothing_else_follows_declarators, nothing_else_follows_specifiers,
     nothing_else_is_a_declarator, nothing_read_is_completed, parameters_follow_one_another,
-    sizes_end_a_declarator, specifiers_end, stars_are_read, words_are_read, words_may_be_missing,
+    sizes_end_a_declarator, specifiers_are_complete, stars_are_read, words_are_read,
+    words_may_be_missing,
 };
 pub use levels::{Focus, Level, Owner};

@@ -1,5 +1,5 @@
 use Rattle.po_decl_steps.proofs.AmongSpecifiers.{member_wants, param_wants, part_wants}
-use Rattle.po_decl_steps.proofs.laws.specifiers_end.Goals as goal
+use Rattle.po_decl_steps.proofs.laws.specifiers_are_complete.Goals as goal
 
 pub returns-clause-members : goal.returns-clause-members
 returns-clause-members c = λ below outers types specs free now tag members declarators signs e some. member_wants below outers now tag members declarators e some
