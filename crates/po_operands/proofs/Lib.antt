@@ -1,0 +1,10 @@
+mod Agreeing
+mod Choosing
+mod Combinations
+mod Forms
+mod Layers
+mod Lvalues
+mod Meanings
+mod Nulls
+mod Told
+mod TypeNames
