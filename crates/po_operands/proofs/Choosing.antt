@@ -53,6 +53,18 @@ module _ (ctx : Context) (y z : Exp) where
   fits (void_right {t = t} h k) = rw (out_Ptr t) (inr (c.Void, refl))
   fits (void_left {t = t} h k) = rw (out_Ptr c.Void) (inr (t, refl))
 
+  kind : {u v r : CType} → Chooses ctx y u z v r → u ≢ c.Void → ((n : ℕ) → u ≡ c.Struct n → ⊥) → ((s : IntType) → u ≡ c.Int s → ⊥) → ((t : CType) → u ≡ c.Ptr t → ⊥) → ⊥
+  kind (numbers s t) nv ns ni np = ni s refl
+  kind (structs n) nv ns ni np = ns n refl
+  kind voids nv ns ni np = nv refl
+  kind (pointers {t = t} h) nv ns ni np = np t refl
+  kind (zero_right t s h) nv ns ni np = np t refl
+  kind (zero_left t s h) nv ns ni np = ni s refl
+  kind (null_pointer_right {t = t} h k) nv ns ni np = np t refl
+  kind (null_pointer_left {t = t} h k) nv ns ni np = np c.Void refl
+  kind (void_right {t = t} h k) nv ns ni np = np t refl
+  kind (void_left {t = t} h k) nv ns ni np = np c.Void refl
+
   module _ (u v : CType) where
     chosen : {l m : CType-F CType} (r : CType) → out-CType u ≡ l → out-CType v ≡ m → Chooses ctx y u z v r → Chosen l m r
     chosen {l = l} r f g h = subst (λ k. Chosen l k r) g (subst (λ k. Chosen k (out-CType v) r) f (opened h))
@@ -61,16 +73,7 @@ module _ (ctx : Context) (y z : Exp) where
     fitting r f h = subst (λ k. Fits k v) f (fits h)
 
     pub has_a_kind : u ≢ c.Void → ((n : ℕ) → u ≡ c.Struct n → ⊥) → ((s : IntType) → u ≡ c.Int s → ⊥) → ((t : CType) → u ≡ c.Ptr t → ⊥) → (r : CType) → Chooses ctx y u z v r → ⊥
-    has_a_kind nv ns ni np r (numbers s t) = ni s refl
-    has_a_kind nv ns ni np r (structs n) = ns n refl
-    has_a_kind nv ns ni np r voids = nv refl
-    has_a_kind nv ns ni np r (pointers {t = t} h) = np t refl
-    has_a_kind nv ns ni np r (zero_right t s h) = np t refl
-    has_a_kind nv ns ni np r (zero_left t s h) = ni s refl
-    has_a_kind nv ns ni np r (null_pointer_right {t = t} h k) = np t refl
-    has_a_kind nv ns ni np r (null_pointer_left {t = t} h k) = np c.Void refl
-    has_a_kind nv ns ni np r (void_right {t = t} h k) = np t refl
-    has_a_kind nv ns ni np r (void_left {t = t} h k) = np c.Void refl
+    has_a_kind nv ns ni np r h = kind h nv ns ni np
 
     pub void_beside_void : u ≡ c.Void → v ≢ c.Void → (r : CType) → Chooses ctx y u z v r → ⊥
     void_beside_void q n r h = n (fitting r (ap out-CType q ∙ out_Void) h)

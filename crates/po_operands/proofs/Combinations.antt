@@ -74,30 +74,36 @@ opened (plus_pointer t s h) = rw (out_Ptr t, out_Int s) (h, refl)
 opened (pointer_minus t s h) = rw (out_Ptr t, out_Int s) (h, inr refl)
 opened (difference t h) = rw (out_Ptr t) (inr (refl, (refl, h)))
 
-module _ (ctx : Context) (o : Op) where
-  at : {t u : CType} {l m : CType-F CType} (p : Combined) → out-CType t ≡ l → out-CType u ≡ m → CombinesTo ctx o t u p → Combinable ctx o l m
-  at {u = u} {l = l} p f g h = subst (Combinable ctx o l) g (subst (λ z. Combinable ctx o z (out-CType u)) f (opened h))
+-- operands are numbers and pointers
+left_scalar : {ctx : Context} {o : Op} {t u r a b : CType} → Combines ctx o t u r a b → ((s : IntType) → t ≡ c.Int s → ⊥) → ((x : CType) → t ≡ c.Ptr x → ⊥) → ⊥
+left_scalar (arithmetic o s t h) n m = n s refl
+left_scalar (shift o s t h) n m = n s refl
+left_scalar (numbers_compared o s t h) n m = n s refl
+left_scalar (pointers_compared o t u h) n m = m t refl
+left_scalar (pointer_plus t s h) n m = m t refl
+left_scalar (plus_pointer t s h) n m = n s refl
+left_scalar (pointer_minus t s h) n m = m t refl
+left_scalar (difference t h) n m = m t refl
 
-  -- operands are numbers and pointers
+right_scalar : {ctx : Context} {o : Op} {t u r a b : CType} → Combines ctx o t u r a b → ((s : IntType) → u ≡ c.Int s → ⊥) → ((x : CType) → u ≡ c.Ptr x → ⊥) → ⊥
+right_scalar (arithmetic o s t h) n m = n t refl
+right_scalar (shift o s t h) n m = n t refl
+right_scalar (numbers_compared o s t h) n m = n t refl
+right_scalar (pointers_compared o t u h) n m = m u refl
+right_scalar (pointer_plus t s h) n m = n s refl
+right_scalar (plus_pointer t s h) n m = m t refl
+right_scalar (pointer_minus t s h) n m = n s refl
+right_scalar (difference t h) n m = m t refl
+
+module _ (ctx : Context) (o : Op) where
   pub left_is_scalar : (t u : CType) → ((s : IntType) → t ≡ c.Int s → ⊥) → ((x : CType) → t ≡ c.Ptr x → ⊥) → (p : Combined) → CombinesTo ctx o t u p → ⊥
-  left_is_scalar t u n m p (arithmetic o s r h) = n s refl
-  left_is_scalar t u n m p (shift o s r h) = n s refl
-  left_is_scalar t u n m p (numbers_compared o s r h) = n s refl
-  left_is_scalar t u n m p (pointers_compared o x y h) = m x refl
-  left_is_scalar t u n m p (pointer_plus x s h) = m x refl
-  left_is_scalar t u n m p (plus_pointer x s h) = n s refl
-  left_is_scalar t u n m p (pointer_minus x s h) = m x refl
-  left_is_scalar t u n m p (difference x h) = m x refl
+  left_is_scalar t u n m p h = left_scalar h n m
 
   pub right_is_scalar : (t u : CType) → ((s : IntType) → u ≡ c.Int s → ⊥) → ((x : CType) → u ≡ c.Ptr x → ⊥) → (p : Combined) → CombinesTo ctx o t u p → ⊥
-  right_is_scalar t u n m p (arithmetic o s r h) = n r refl
-  right_is_scalar t u n m p (shift o s r h) = n r refl
-  right_is_scalar t u n m p (numbers_compared o s r h) = n r refl
-  right_is_scalar t u n m p (pointers_compared o x y h) = m y refl
-  right_is_scalar t u n m p (pointer_plus x s h) = n s refl
-  right_is_scalar t u n m p (plus_pointer x s h) = m x refl
-  right_is_scalar t u n m p (pointer_minus x s h) = n s refl
-  right_is_scalar t u n m p (difference x h) = m x refl
+  right_is_scalar t u n m p h = right_scalar h n m
+
+  at : {t u : CType} {l m : CType-F CType} (p : Combined) → out-CType t ≡ l → out-CType u ≡ m → CombinesTo ctx o t u p → Combinable ctx o l m
+  at {u = u} {l = l} p f g h = subst (Combinable ctx o l) g (subst (λ z. Combinable ctx o z (out-CType u)) f (opened h))
 
   -- two numbers
   pub computed : (s t : IntType) (p : Combined) → class_of o ≡ k.Arithmetic → p.result ≡ c.Int (common s t) → p.left ≡ c.Int (common s t) → p.right ≡ c.Int (common s t) →

@@ -1,5 +1,5 @@
 -- What `? :` makes of a pointer beside a pointer to void.
-use Rattle.std.specs.Prelude.{◌≡◌}
+use Rattle.std.specs.Prelude.{◌≡◌, ◌⊎◌}
 use Rattle.po_types.specs.declared.ctype.CType.{CType}
 
 -- the pointer type t where the pointer to void is null, and else void* (6.5.15p6)

@@ -1,4 +1,4 @@
-ghost use Rattle.std.specs.Prelude.{◌≡◌, MatchBool, None};
+ghost use Rattle.std.specs.Prelude.{◌≡◌, ◌⊎◌, MatchBool, None};
 ghost use Rattle.po_types.specs.Types.{Agree};
 
 use po_types::{CType, same};

@@ -165,11 +165,12 @@ pub fn the_other(specs: &[Specifier]) -> Option<&Specifier>
     ensures { MatchOption result ((s : SpecifierOf) → IsTheOther specs.now s → ⊥) (λ s. IsTheOther specs.now s.now) }
 {
     for i in 0..specs.len() {
-        if !is_plain_word(&specs[i]) {
+        let specifier = &specs[i];
+        if !is_plain_word(specifier) {
             if !are_plain_words(&specs[i + 1..]) {
                 return None;
             }
-            return Some(&specs[i]);
+            return Some(specifier);
         }
     }
     None
