@@ -1,2 +1,0 @@
-pub mod Combining
-pub mod Choosing
