@@ -1,3 +1,4 @@
+mod Apart
 mod Passed
 mod Pointers
 mod Reordered

@@ -7,4 +7,4 @@ mod words;
 
 pub use declarators::{can_be_starred, restrict_fits, starred};
 pub use word_types::word_type;
-pub use words::{has_word, only_words};
+pub use words::{has_word, is_plain_word, only_words, the_other};

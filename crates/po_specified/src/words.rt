@@ -1,7 +1,8 @@
 ghost use Rattle.std.specs.Prelude.{ℕ, List as Bytes, ◌≡◌, ◌∷◌, MatchBool, MatchOption, Contains, All, map, codes, count_by, IsTrue, ◌↔◌};
 ghost use Rattle.po_tree.specs.declared.expression.Specifier.TheVariants as sp;
-ghost use Rattle.po_typed.specs.BaseTypes.{HasWord, OnlyWords};
-ghost use Rattle.po_specified.specs.Words.{says, IsSomeWord, Allows};
+ghost use Rattle.po_tree.specs.declared.expression.Specifier.{Specifier as SpecifierOf};
+ghost use Rattle.po_typed.specs.BaseTypes.{HasWord, OnlyWords, IsPlainWord};
+ghost use Rattle.po_specified.specs.Words.{says, IsSomeWord, Allows, IsTheOther};
 
 use po_base::Text;
 use po_tree::Specifier;
@@ -14,6 +15,18 @@ const CLASSES: [&[u8]; 6] = [
     b"static",
     b"auto",
     b"register",
+];
+
+/// The words of void and of the integer types (C99 6.7.2).
+const TYPE_WORDS: [&[u8]; 8] = [
+    b"void",
+    b"char",
+    b"short",
+    b"int",
+    b"long",
+    b"signed",
+    b"unsigned",
+    b"_Bool",
 ];
 
 /// Whether a specifier is a word, and which.
@@ -118,4 +131,47 @@ pub fn only_words(specs: &[Specifier], allowed: &[&[u8]]) -> bool
     ensures { MatchBool result (OnlyWords (map (λ w. w.now) allowed.now) specs.now) (OnlyWords (map (λ w. w.now) allowed.now) specs.now → ⊥) }
 {
     only_among(specs, &CLASSES, allowed)
+}
+
+/// Whether a specifier is a storage class, a qualifier or `inline`.
+pub fn is_plain_word(specifier: &Specifier) -> bool
+    ensures { MatchBool result (IsPlainWord specifier.now) (IsPlainWord specifier.now → ⊥) }
+{
+    match word_of(specifier) {
+        None => false,
+        Some(text) => {
+            if is_among(text.bytes(), &TYPE_WORDS) {
+                return false;
+            }
+            true
+        }
+    }
+}
+
+/// Whether all specifiers are storage classes, qualifiers or `inline`.
+fn are_plain_words(specs: &[Specifier]) -> bool
+    ensures { MatchBool result (All IsPlainWord specs.now) (All IsPlainWord specs.now → ⊥) }
+{
+    for specifier in specs {
+        if !is_plain_word(specifier) {
+            return false;
+        }
+    }
+    true
+}
+
+/// The one specifier that is no storage class, qualifier or `inline`; None exactly where there isn't just one. Time linear in the specifiers.
+pub fn the_other(specs: &[Specifier]) -> Option<&Specifier>
+    ensures { MatchOption result ((s : SpecifierOf) → IsTheOther specs.now s → ⊥) (λ s. IsTheOther specs.now s.now) }
+{
+    for i in 0..specs.len() {
+        let specifier = &specs[i];
+        if !is_plain_word(specifier) {
+            if !are_plain_words(&specs[i + 1..]) {
+                return None;
+            }
+            return Some(specifier);
+        }
+    }
+    None
 }
