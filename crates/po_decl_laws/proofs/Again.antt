@@ -1,16 +1,15 @@
 -- What one specifier is, in any other list of specifiers that the same signs print.
 use Rattle.std.proofs.Common.{◌≡◌, ◌∙◌, ℕ, ◌≤◌, List, [], ◌∷◌, ◌++◌, map, flat_map, Bool, refl, sym, ap, subst, arith, append_assoc, codes}
-use Rattle.std.specs.Prelude.{Option, Some, None}
+use Rattle.std.specs.Prelude.{Option, Some}
 use Rattle.po_tree.specs.declared.expression.Member.{Member}
 use Rattle.po_tree.specs.declared.expression.Specifier.{Specifier}
 use Rattle.po_tree.specs.declared.expression.Specifier.TheVariants as sp
 use Rattle.po_tree.specs.Signs.{Sign, word, brace, brace_end}
-use Rattle.po_tree.specs.Heights.{specifier_height, greatest}
+use Rattle.po_tree.specs.Heights.{greatest}
 use Rattle.po_tree.specs.Printing.{flat_specifier, optional}
 use Rattle.po_tree.specs.Expressions.{Typed, by_name}
 use Rattle.po_tree.specs.Declarations as de
 use Rattle.po_tree.specs.Declarations.{Specs, IsTag, Members}
-use Rattle.po_exp_parts.specs.Places.{Begins}
 use Rattle.po_decl_parts.specs.Printed.{BeginsSpecifiers}
 use Rattle.po_decl_parts.specs.Specifiers.{SpecifierStands, TagRead, no_tag, tagged, NoTag, Opens}
 use Rattle.po_decl_parts.proofs.FirstWords.{stands_one, stands_reads, no_struct, tag_open, tag_same}

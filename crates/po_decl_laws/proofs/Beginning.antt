@@ -1,5 +1,5 @@
 -- How a list of specifiers begins: with the body of a struct, or with a specifier that is read; and with a word in both.
-use Rattle.std.proofs.Common.{◌≡◌, ◌∙◌, ℕ, ◌≤◌, List, [], ◌∷◌, ◌++◌, map, flat_map, Bool, false, refl, sym, ap, subst, arith, append_assoc, codes, ◌⊎◌, inl, inr}
+use Rattle.std.proofs.Common.{◌≡◌, ℕ, ◌≤◌, List, [], ◌∷◌, ◌++◌, flat_map, Bool, false, refl, sym, ap, subst, arith, codes, ◌⊎◌, inl, inr}
 use Rattle.std.specs.Prelude.{Option, Some, None}
 use Rattle.po_base.specs.declared.token.TokenKind.TheVariants as k
 use Rattle.po_tree.specs.declared.expression.Exp.{Exp}
@@ -8,14 +8,13 @@ use Rattle.po_tree.specs.declared.expression.Specifier.{Specifier}
 use Rattle.po_tree.specs.declared.expression.Specifier.TheVariants as sp
 use Rattle.po_tree.specs.Signs.{Sign, word, brace}
 use Rattle.po_tree.specs.Heights.{specifier_height}
-use Rattle.po_tree.specs.Printing.{flat_specifier, optional, in_braces}
+use Rattle.po_tree.specs.Printing.{flat_specifier}
 use Rattle.po_tree.specs.Layers.{flat_specifier-Word, flat_specifier-Named, flat_specifier-struct, flat_specifier-enum}
 use Rattle.po_tree.specs.Expressions.{Typed, untyped, by_name}
 use Rattle.po_tree.specs.Declarations.{Specs, no_more_specs, storage_class, inline_word, qualifier, type_word, typedef_name, struct_tag, struct_body, enum_tag, enum_body, IsTag, Members}
 use Rattle.po_exp_parts.specs.Places.{Begins, BeginsWord}
 use Rattle.po_decl_parts.specs.Printed.{BeginsSpecifiers, HasMembers}
 use Rattle.po_decl_parts.proofs.PrintedSpecifiers.{flat_specifier-body, specifier_complete}
-use Rattle.po_decl_laws.specs.Parts.{flat_member, specs_height}
 use Rattle.po_decl_laws.specs.Fronts.{EndsSpecifiers}
 use Rattle.po_decl_laws.proofs.Layers.{flat_specifier-members}
 use Rattle.po_decl_laws.proofs.Fronts.{ends_no_brace}

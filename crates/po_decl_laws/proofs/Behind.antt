@@ -1,5 +1,5 @@
 -- What is printed behind the first of several members, declarators or parameters.
-use Rattle.std.proofs.Common.{◌≡◌, ◌∙◌, ℕ, List, [], ◌∷◌, ◌++◌, map, flat_map, drop, get_or, Bool, true, false, cond, refl, sym, ap, subst, arith, append_assoc, append-nil, codes}
+use Rattle.std.proofs.Common.{◌≡◌, ◌∙◌, ℕ, List, [], ◌∷◌, ◌++◌, map, flat_map, drop, get_or, Bool, true, false, cond, refl, sym, ap, subst, arith, append_assoc, append-nil}
 use Rattle.std.specs.Prelude.{Option, Some, None}
 use Rattle.po_base.specs.declared.token.TokenKind.TheVariants as k
 use Rattle.po_tree.specs.declared.expression.Specifier.{Specifier}
@@ -8,8 +8,8 @@ use Rattle.po_tree.specs.declared.expression.Member.{Member, out-Member}
 use Rattle.po_tree.specs.declared.expression.Param.{Param, out-Param}
 use Rattle.po_tree.specs.declared.expression.Suffix.TheVariants as su
 use Rattle.po_tree.specs.declared.declaration.Init.{Init}
-use Rattle.po_tree.specs.Signs.{Sign, word, punct, comma, semicolon, opening, closing, brace_end, dots, equals}
-use Rattle.po_tree.specs.Printing.{flat_specifier, flat_suffix, flat_declarator, flat_init, flat_part, flat_decl, with_commas, after_commas, parenthesised}
+use Rattle.po_tree.specs.Signs.{Sign, punct, comma, semicolon, opening, closing, brace_end, dots, equals}
+use Rattle.po_tree.specs.Printing.{flat_specifier, flat_suffix, flat_declarator, flat_init, flat_part, flat_decl, with_commas, after_commas}
 use Rattle.po_tree.specs.Expressions.{Typed}
 use Rattle.po_tree.specs.Declarations.{Specs, AllDeclarators, no_more_declarators, one_more_declarator}
 use Rattle.po_exp_parts.specs.Places.{BeginsWord}

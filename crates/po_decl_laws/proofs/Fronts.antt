@@ -1,6 +1,6 @@
 -- What stands behind the parts of a declaration begins none of them.
 use Rattle.std.proofs.Common.{◌≡◌, ◌∙◌, ℕ, ◌≤◌, List, [], ◌∷◌, ◌++◌, map, flat_map, Bool, true, false, cond, get_or, refl, sym, ap, subst, arith, append_assoc, codes}
-use Rattle.std.specs.Prelude.{Contains, All, Option, Some, None}
+use Rattle.std.specs.Prelude.{Contains, Option, Some, None}
 use Rattle.po_base.specs.declared.token.TokenKind.TheVariants as k
 use Rattle.po_tree.specs.declared.expression.Exp.{Exp}
 use Rattle.po_tree.specs.declared.expression.Specifier.{Specifier}
@@ -10,7 +10,7 @@ use Rattle.po_tree.specs.declared.expression.Suffix.TheVariants as su
 use Rattle.po_tree.specs.declared.expression.Declarator.{Declarator}
 use Rattle.po_tree.specs.Signs.{Sign, word, punct, star, bracket, bracket_end, opening, closing, comma, dots, brace}
 use Rattle.po_tree.specs.Words.{IsName, keywords, storage_classes, type_words, qualifiers}
-use Rattle.po_tree.specs.Heights.{suffix_height, greatest, or_none, height}
+use Rattle.po_tree.specs.Heights.{suffix_height}
 use Rattle.po_tree.specs.Printing.{flat, flat_suffix, flat_declarator, prints_star, optional, with_commas}
 use Rattle.po_tree.specs.Layers.{flat_suffix-Plain, flat_suffix-Arrays, suffix_height-Arrays}
 use Rattle.po_tree.specs.Expressions.{Typed, untyped, by_words, by_name, SizesFormed, plain, arrays}
@@ -26,7 +26,7 @@ use Rattle.po_decl_parts.proofs.Printed.{stars_complete, sizes_complete}
 use Rattle.po_exp_parts.proofs.SameSigns.{same_word}
 use Rattle.po_exp_parts.proofs.RangePlaces.{name_word}
 use Rattle.po_decl_laws.specs.Parts.{flat_param}
-use Rattle.po_decl_laws.specs.Fronts.{EndsSpecifiers, at_sign, at_word, IsDeclaratorEnd, at_comma, at_semicolon, at_closing, at_equals, at_colon, at_brace, EndsDeclarator, IsParameterEnd, before_another, behind_last, EndsParameter}
+use Rattle.po_decl_laws.specs.Fronts.{EndsSpecifiers, at_sign, at_word, IsDeclaratorEnd, at_comma, at_semicolon, at_closing, at_equals, at_colon, at_brace, EndsDeclarator, before_another, behind_last, EndsParameter}
 use Rattle.po_decl_laws.proofs.Layers.{flat_suffix-Params, flat_declarator-all}
 
 -- the first byte of a text

@@ -1,12 +1,12 @@
 -- What the parts of declarations print and how high they are, by their own parts.
 use Rattle.std.proofs.Common.{◌≡◌, ◌∙◌, ℕ, List, [], ◌∷◌, ◌++◌, map, flat_map, Bool, cond, refl, sym, ap, codes}
-use Rattle.std.specs.Prelude.{max, Option, Some, None}
+use Rattle.std.specs.Prelude.{Option, Some}
 use Rattle.po_tree.specs.declared.expression.Exp.TheOpen.{Specifier-F, Suffix-F}
-use Rattle.po_tree.specs.declared.expression.Specifier.{Specifier, fold-roll-Specifier}
+use Rattle.po_tree.specs.declared.expression.Specifier.{fold-roll-Specifier}
 use Rattle.po_tree.specs.declared.expression.Specifier.TheVariants as sp
 use Rattle.po_tree.specs.declared.expression.Suffix.{Suffix, fold-roll-Suffix}
 use Rattle.po_tree.specs.declared.expression.Suffix.TheVariants as su
-use Rattle.po_tree.specs.declared.expression.Declarator.{Declarator, fold-roll-Declarator}
+use Rattle.po_tree.specs.declared.expression.Declarator.{fold-roll-Declarator}
 use Rattle.po_tree.specs.declared.expression.Member.{Member, out-Member, fold-Member, fold_out-Member, roll-Member, roll-out-Member}
 use Rattle.po_tree.specs.declared.expression.Param.{Param, out-Param, fold-Param, fold_out-Param, roll-Param, roll-out-Param}
 use Rattle.po_tree.specs.Signs.{Sign, word, comma, dots, semicolon}

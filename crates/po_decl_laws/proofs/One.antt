@@ -1,7 +1,6 @@
 -- Of two lists of specifiers, members, declarators or parameters that the same signs print, with what may stand behind each, one is the other.
 use Rattle.std.proofs.Common.{◌≡◌, ◌∙◌, ℕ, ◌≤◌, List, [], ◌∷◌, ◌++◌, map, flat_map, Bool, true, false, refl, sym, ap, subst, arith, append_assoc, codes}
 use Rattle.std.specs.Prelude.{Option, Some, None, cond, nat_eq}
-use Rattle.std.specs.Str.{bytes_eq}
 use Rattle.po_tree.specs.declared.expression.Exp.{Exp}
 use Rattle.po_tree.specs.declared.expression.Specifier.{Specifier}
 use Rattle.po_tree.specs.declared.expression.Specifier.TheVariants as sp
@@ -10,14 +9,14 @@ use Rattle.po_tree.specs.declared.expression.Suffix.TheVariants as su
 use Rattle.po_tree.specs.declared.expression.Declarator.{Declarator}
 use Rattle.po_tree.specs.declared.expression.Member.{Member, out-Member}
 use Rattle.po_tree.specs.declared.expression.Param.{Param, out-Param}
-use Rattle.po_tree.specs.Signs.{Sign, word, comma, semicolon, brace, brace_end}
-use Rattle.po_tree.specs.Heights.{specifier_height, suffix_height, declarator_height, greatest}
+use Rattle.po_tree.specs.Signs.{Sign, word, comma, brace, brace_end}
+use Rattle.po_tree.specs.Heights.{suffix_height, declarator_height, greatest}
 use Rattle.po_tree.specs.Printing.{flat_specifier, flat_suffix, flat_declarator, optional}
 use Rattle.po_tree.specs.Layers.{flat_specifier-Word, flat_specifier-Named, flat_specifier-struct, flat_specifier-enum, flat_suffix-Plain}
-use Rattle.po_tree.specs.Expressions.{Typed, untyped, by_words, by_name, SuffixFormed, plain, arrays}
+use Rattle.po_tree.specs.Expressions.{Typed, untyped, by_name, SuffixFormed, plain, arrays}
 use Rattle.po_tree.specs.Declarations as de
 use Rattle.po_tree.specs.Declarations.{without, Specs, Members, AllDeclarators, IsDeclarator, IsSuffix, Params, IsParameter, IsTag}
-use Rattle.po_exp_parts.specs.Places.{Begins, BeginsWord}
+use Rattle.po_exp_parts.specs.Places.{BeginsWord}
 use Rattle.po_decl_parts.specs.Enumerators.{flat_enumerators}
 use Rattle.po_decl_parts.specs.Sizes.{SizesRead}
 use Rattle.po_decl_parts.specs.Specifiers.{SpecifierStands, storage_class, inline_word, qualifier, type_word, typedef_name, struct_tag, enum_tag, enum_body}
@@ -28,13 +27,13 @@ use Rattle.po_decl_parts.proofs.Printed.{enclosed, items_complete}
 use Rattle.po_decl_parts.proofs.PrintedSpecifiers.{flat_specifier-body, specifier_height-body, specifier_complete}
 use Rattle.po_exp_parts.proofs.SameSigns.{same_word}
 use Rattle.po_exp_parts.proofs.Starred.{stars_same}
-use Rattle.po_decl_laws.specs.Parts.{flat_member, flat_param, member_height, param_height, specs_height}
+use Rattle.po_decl_laws.specs.Parts.{member_height, param_height, specs_height}
 use Rattle.po_decl_laws.specs.Fronts as fr
 use Rattle.po_decl_laws.specs.Fronts.{EndsSpecifiers, EndsDeclarator, EndsParameter}
 use Rattle.po_decl_laws.proofs.Layers.{specifier_height-members, suffix_height-Params, declarator_height-all, member_same, param_same}
-use Rattle.po_decl_laws.proofs.Fronts.{ends_no_specifier, ends_no_opens, flat_arrays-before, end_no_bracket, end_no_opening, sizes_before_end, declarator_stars, unnamed_stars, suffix_no_word, parameter_ends, parameter_end}
-use Rattle.po_decl_laws.proofs.Beginning.{Begun, nothing, a_body, a_specifier, begun, specs_no_brace, FirstWord}
-use Rattle.po_decl_laws.proofs.Again.{Continued, specifier_again, BodyContinued, body_again, opens_first, tag_stands, flat_body-before}
+use Rattle.po_decl_laws.proofs.Fronts.{ends_no_specifier, ends_no_opens, flat_arrays-before, sizes_before_end, declarator_stars, unnamed_stars, suffix_no_word, parameter_ends, parameter_end}
+use Rattle.po_decl_laws.proofs.Beginning.{Begun, nothing, a_body, a_specifier, begun, specs_no_brace}
+use Rattle.po_decl_laws.proofs.Again.{Continued, specifier_again, body_again, opens_first, tag_stands}
 use Rattle.po_decl_laws.proofs.Behind.{tails, first_byte, no_word_first, some_specs_word, declarators_behind, declarators_front, declarators_next, declarators_end, declarators_end_specs, front_behind, members_behind, members_next, params_behind, params_front, params_first, params_next, params_end, flat_params-front, params_ended, params_over, params_none}
 
 -- what two lists of specifiers come to

@@ -1,5 +1,5 @@
 -- Of two declarations that the same signs print one is the other.
-use Rattle.std.proofs.Common.{◌≡◌, ◌∙◌, ℕ, ◌≤◌, List, [], ◌∷◌, ◌++◌, map, flat_map, refl, sym, ap, subst, arith, append-nil, codes}
+use Rattle.std.proofs.Common.{◌≡◌, ◌∙◌, ℕ, ◌≤◌, List, [], ◌∷◌, ◌++◌, map, flat_map, refl, sym, ap, subst, arith, codes}
 use Rattle.std.specs.Prelude.{Option, Some, None}
 use Rattle.po_tree.specs.declared.expression.Specifier.{Specifier}
 use Rattle.po_tree.specs.declared.expression.Declarator.{Declarator}
@@ -7,7 +7,7 @@ use Rattle.po_tree.specs.declared.declaration.Init.{Init}
 use Rattle.po_tree.specs.declared.declaration.Decl.{Decl}
 use Rattle.po_tree.specs.Signs.{Sign, word, comma, semicolon, equals}
 use Rattle.po_tree.specs.Heights.{decl_height, part_height, greatest}
-use Rattle.po_tree.specs.Printing.{flat_specifier, flat_declarator, flat_init, flat_decl, prints_star}
+use Rattle.po_tree.specs.Printing.{flat_declarator, flat_init, flat_decl, prints_star}
 use Rattle.po_tree.specs.Expressions.{Typed}
 use Rattle.po_tree.specs.Declarations.{IsDeclarator, declarator, IsInit, Declares, new_type, other, Parts, no_more_parts, part, initialised, Declared, declared, IsPiece, lone, declaration, IsDeclaration}
 use Rattle.po_exp_parts.specs.Places.{at_comma, at_semicolon, BeginsEnd}
