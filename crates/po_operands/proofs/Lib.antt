@@ -1,0 +1,2 @@
+mod Combinations
+mod Told
