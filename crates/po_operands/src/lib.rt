@@ -1,8 +1,16 @@
-//! What the typing of expressions asks of operands (C99 6.3.2.1, 6.5): the types of values, and what identifiers mean in expressions.
+//! What the typing of expressions asks of operands (C99 6.3.2.1, 6.5, 6.7.6): the types of values, what operators make of them, what type names say.
 #![tactic(auto)]
 
+mod addresses;
+mod agreeing;
+mod combining;
 mod names;
+mod type_names;
 mod values;
 
-pub use names::value_of;
-pub use values::{compared_as, value_type};
+pub use addresses::{has_address, is_lvalue};
+pub use agreeing::agree;
+pub use combining::{Combined, combines};
+pub use names::{has_stored_address, is_object, value_of};
+pub use type_names::{base_of, in_force, integer_name, plain_name, starred_base};
+pub use values::{compared_as, is_complete, stepped, tested, value_type};

@@ -1,0 +1,7 @@
+mod Agreement
+mod Combinations
+mod Layers
+mod Lvalues
+mod StarredBases
+mod Told
+mod TypeNames
