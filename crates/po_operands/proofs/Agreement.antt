@@ -3,7 +3,7 @@ use Rattle.std.proofs.Common.{◌≡◌, ◌≢◌, ℕ, Option, None, sym, ap, 
 use Rattle.po_types.specs.declared.ctype.CType.{CType}
 use Rattle.po_types.specs.declared.ctype.CType.TheVariants as c
 use Rattle.po_types.specs.Types.{elements, Agree, equal, first_without_size, second_without_size}
-use Rattle.po_typed.proofs.OneConstant.{one_some}
+use Rattle.po_lists.proofs.Options.{one_some}
 use Rattle.po_typed.proofs.OneType.{elements_Array}
 
 pub record OfArrays (t u : CType) : Type 0 where

@@ -11,7 +11,7 @@ use Rattle.po_types.specs.declared.ctype.CType.{CType, out-CType, roll-CType, ro
 use Rattle.po_types.specs.declared.ctype.CType.TheVariants as c
 use Rattle.po_types.specs.declared.ctype.CType.TheOpen.{CType-F}
 use Rattle.po_types.specs.Integers.{promoted, common, int_type, difference_type}
-use Rattle.po_types.specs.TypesLaws.{out_Void, out_Int, out_Ptr}
+use Rattle.po_types.proofs.TypesLaws.{out_Void, out_Int, out_Ptr}
 use Rattle.po_typed.specs.Scopes.{Context}
 use Rattle.po_typed.specs.Operands.{IsComplete, Combines, arithmetic, shift, numbers_compared, pointers_compared, pointer_plus, plus_pointer, pointer_minus, difference, arithmetic_operators, shift_operators, comparisons, compared_as, void_layer}
 use Rattle.po_operands.specs.declared.combining.Class.TheVariants as k

@@ -12,7 +12,7 @@ use Rattle.po_typed.specs.Scopes.{Context}
 use Rattle.po_typed.specs.BaseTypes.{OnlyWords, RestrictFits, CanBeStarred, starred}
 use Rattle.po_typed.specs.Expressions.{IsBase, IsStarredBase, IsPlainName}
 use Rattle.po_typed.proofs.OneBase.{one_base, one_starred}
-use Rattle.po_typed.proofs.OneConstant.{one_some}
+use Rattle.po_lists.proofs.Options.{one_some}
 use Rattle.po_typed.proofs.OneType.{integer_Int}
 
 module _ (ctx : Context) (name : TypeName) (specs : List Specifier) (stars : List (List (List ℕ))) (e : specs ≡ name.specs) (f : stars ≡ name.declarator.stars)

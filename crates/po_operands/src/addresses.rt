@@ -1,4 +1,4 @@
-ghost use Rattle.std.specs.Prelude.{◌≡◌, MatchBool};
+ghost use Rattle.std.specs.Prelude.{MatchBool};
 ghost use Rattle.po_tree.specs.declared.expression.Exp.{out-Exp};
 ghost use Rattle.po_typed.specs.Expressions.{IsLvalue, HasAddress};
 

@@ -1,8 +1,8 @@
-ghost use Rattle.std.specs.Prelude.{◌≡◌, MatchBool, MatchOption, Some, ℤ, pos};
+ghost use Rattle.std.specs.Prelude.{◌≡◌, MatchBool, MatchOption, Some};
 ghost use Rattle.po_tree.specs.declared.expression.Exp.TheOpen.{Exp-F};
 ghost use Rattle.po_types.specs.declared.ctype.CType.{CType as TypeOf};
 ghost use Rattle.po_typed.specs.Scopes.{meaning, constant};
-ghost use Rattle.po_typed.specs.Expressions.{IsObject, HasAddress, IsNull, IsForm};
+ghost use Rattle.po_typed.specs.Expressions.{IsObject, HasAddress};
 ghost use Rattle.po_constants.specs.Found.{Finds};
 
 use po_base::Text;
