@@ -73,8 +73,13 @@ simple_ends text at in' great other =
     let a : (get_or text at 0 == 120) ≡ false = grind (arith, nat_tests) in
     rw (front, not_below (digit (get_or text at 0)) 8 great, a) refl
 
+-- the base of hexadecimal digits
+abbrev hexadecimal_base : ℕ
+hexadecimal_base = 16
+
 -- hexadecimal digits up to the end of the text
-pub hexadecimal_row : (text : List ℕ) (at : ℕ) → at < length text → digit (get_or text at 0) < 16 → row 16 (length text - at) 0 (drop at text) ≡ hexadecimal (drop at text)
+pub hexadecimal_row : (text : List ℕ) (at : ℕ) → at < length text → digit (get_or text at 0) < hexadecimal_base →
+    row hexadecimal_base (length text - at) 0 (drop at text) ≡ hexadecimal (drop at text)
 hexadecimal_row text at in' small =
     let front : drop at text ≡ get_or text at 0 ∷ drop (at + 1) text = drop_more text at 0 in' in
     let count : length text - at ≡ suc (length (drop (at + 1) text)) = omega (arith, length-drop (at + 1) text) in
