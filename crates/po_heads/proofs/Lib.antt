@@ -5,3 +5,4 @@ pub mod Standing
 pub mod Naming
 mod HavingExpressions
 mod HavingDeclarations
+mod Counting

@@ -133,6 +133,10 @@ places_from test n (t ∷ ts) = cond (test t) (n ∷ places_from test (suc n) ts
 abbrev pub head_places : FunTree → List ℕ
 head_places g = places_from is_head 0 (marked_fun g)
 
+-- the places of the keywords of its statements and of the braces that close its blocks
+abbrev pub stop_places : FunTree → List ℕ
+stop_places g = places_from is_stop 0 (marked_fun g)
+
 -- each is greater than those before it
 abbrev pub Ascends : List ℕ → Type 0
 Ascends ns = (k m n : ℕ) → slice_get ns k ≡ Some m → slice_get ns (suc k) ≡ Some n → m < n

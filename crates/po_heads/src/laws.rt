@@ -7,8 +7,9 @@ ghost use Rattle.po_tree.specs.declared.statement.Stmt.{Stmt as Statement};
 ghost use Rattle.po_tree.specs.Declarations.{IsPiece};
 ghost use Rattle.po_tree.specs.Order.{decl_expressions, expressions, fun_expressions, stmt_expressions};
 ghost use Rattle.po_tree.specs.Printing.{flat, flat_decl, flat_fun, flat_stmt, prints_star};
+ghost use Rattle.po_tree.specs.Signs.{Sign};
 ghost use Rattle.po_tree.specs.Statements.{IsFunction};
-ghost use Rattle.po_heads.specs.Heads.{Ascends, HasHeads, fun_stops, head_places, head_sign, head_signs, heads, signs, stmt_stops, stops};
+ghost use Rattle.po_heads.specs.Heads.{Ascends, HasHeads, fun_stops, head_places, head_sign, head_signs, heads, signs, stmt_stops, stop_places, stops};
 ghost use Rattle.po_heads.specs.Marks.{declared, marked, marked_decl, marked_declarator, marked_fun, marked_stmt};
 
 /// The marked tokens of a tree, without their marks, are those that it prints.
@@ -48,6 +49,15 @@ pub fn heads_stand()
 pub fn keywords_are_counted()
     ensures statements { (x : Statement) → stops (marked_stmt x) ≡ stmt_stops x }
     ensures definitions { (g : Definition) → stops (marked_fun g) ≡ fun_stops g }
+{}
+
+/// The k-th keyword or end of a block has the k-th place of these, and stands there in the tokens of the definition. The places ascend, and lie
+/// in the definition.
+pub fn keywords_stand()
+    ensures counted { (g : Definition) → length (stop_places g) ≡ length (fun_stops g) }
+    ensures stands { (g : Definition) (k : ℕ) (s : Sign) → slice_get (fun_stops g) k ≡ Some s → (n : ℕ) × (slice_get (stop_places g) k ≡ Some n) × (slice_get (flat_fun g) n ≡ Some s) }
+    ensures ascend { (g : Definition) → Ascends (stop_places g) }
+    ensures lie_within { (g : Definition) (k n : ℕ) → slice_get (stop_places g) k ≡ Some n → n < length (flat_fun g) }
 {}
 
 /// The Word of a declarator stands behind its stars, and is marked so.

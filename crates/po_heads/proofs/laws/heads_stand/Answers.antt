@@ -13,4 +13,4 @@ pub returns-clause-ascend : goal.returns-clause-ascend
 returns-clause-ascend c = λ g. ascends is_head (marked_fun g) 0
 
 pub returns-clause-lie_within : goal.returns-clause-lie_within
-returns-clause-lie_within c = λ g k n here. lies_within g k n here
+returns-clause-lie_within c = λ g k n here. lies_within is_head g k n here
