@@ -1,9 +1,9 @@
 -- A row of expressions has just those that are inside a tree, by what is inside its parts.
-use Rattle.std.proofs.Common.{◌≡◌, ◌⊎◌, inl, inr, ℕ, Bool, true, false, List, [], ◌∷◌, ◌++◌, map, flat_map, Option, Some, None, refl, sym, ap, subst, ◌∙◌}
-use Rattle.std.specs.Prelude.{Contains}
+use Rattle.std.proofs.Common.{◌≡◌, ◌⊎◌, inl, inr, ℕ, List, [], ◌∷◌, ◌++◌, map, flat_map, Option, Some, None, refl, sym, ap, subst, ◌∙◌}
+use Rattle.std.specs.Prelude.{Contains, ◌↔◌}
 use Rattle.po_lists.proofs.Members.{Has, has, contains}
 use Rattle.po_tree.specs.declared.expression.Exp.{Exp}
-use Rattle.po_tree.specs.Order.{Ordered, within, item_within, tree_of, item_tree, some_expressions}
+use Rattle.po_tree.specs.Order.{Ordered, within, tree_of, some_expressions}
 use Rattle.po_heads.specs.Inside.{Tree, expression, any, parts, IsInside, itself, in_part}
 
 -- these expressions are just those inside this tree
@@ -86,13 +86,13 @@ headed m = record {
 
 -- a whole tree, by its parts
 
-as_expression : Tree → Option Exp
+abbrev pub as_expression : Tree → Option Exp
 as_expression (expression x) = Some x
 as_expression _ = None
 
 opened : {y : Exp} {t : Tree} → IsInside y t → (Some y ≡ as_expression t) ⊎ Among y (parts t)
 opened itself = inl refl
-opened {y = y} (in_part part whole c h) = inr (one_among y part (parts whole) (has (parts whole) part c) h)
+opened {y = y} (in_part p t c h) = inr (one_among y p (parts t) (has (parts t) p c) h)
 
 closed : (y : Exp) (t : Tree) → Among y (parts t) → IsInside y t
 closed y t h = let r = found_among y (parts t) h in in_part r.0 t (contains (parts t) r.0 r.1) r.2
@@ -114,6 +114,9 @@ whole t other m = record {
   told = λ y h. elim (m.told y h) [ inl k ↦ absurd k | inr k ↦ closed y t k ];
   kept = λ y h. m.kept y (elim (opened h) [ inl q ↦ absurd (none_other y (q ∙ other)) | inr k ↦ inr k ]);
 }
+
+pub just_inside : {xs : List Exp} {t : Tree} → Counts xs t → (y : Exp) → Contains xs y ↔ IsInside y t
+just_inside {xs} c y = ((λ h. c.told y (has xs y h)), (λ h. contains xs y (c.kept y h)))
 
 -- parts in a row, where each is counted
 module _ {T : Type 0} (x : T → List Exp) (f : T → Tree) (a : (t : T) → Counts (x t) (f t)) where
@@ -149,3 +152,22 @@ module _ {T : Type 0} (P : T → Type 0) (o : T → Ordered T) (f : T → Tree) 
     same_sizes [] = refl
     same_sizes (None ∷ ts) = rw (g-None, o-None) (ap (λ l. None ∷ l) (same_sizes ts))
     same_sizes (Some t ∷ ts) = rw (g-Some t, o-Some t.0) (λ i. Some (same t.0 t.1 i) ∷ same_sizes ts i)
+
+  module _ (g : (List ℕ × Option ((t : T) × P t)) → (List ℕ × Option T)) (go : (List ℕ × Option T) → (List ℕ × Option (Ordered T)))
+      (g-None : (n : List ℕ) → g (n, None) ≡ (n, None)) (o-None : (n : List ℕ) → go (n, None) ≡ (n, None))
+      (g-Some : (n : List ℕ) (t : (t : T) × P t) → g (n, Some t) ≡ (n, Some t.0)) (o-Some : (n : List ℕ) (t : T) → go (n, Some t) ≡ (n, Some (o t))) where
+    item : (x : List ℕ × Option ((t : T) × P t)) → Made (within (go (g x)).1) [] (any f (g x).1)
+    item (n, None) = rw (g-None n, o-None n) nothing
+    item (n, Some t) = rw (g-Some n t, o-Some n t.0) (part (a t.0 t.1))
+
+    same_item_of : (x : List ℕ × Option ((t : T) × P t)) → ((go (g x)).0, tree_of (go (g x)).1) ≡ g x
+    same_item_of (n, None) = rw (g-None n, o-None n) refl
+    same_item_of (n, Some t) = rw (g-Some n t, o-Some n t.0) (λ i. (n, Some (same t.0 t.1 i)))
+
+    pub items : (ts : List (List ℕ × Option ((t : T) × P t))) → Made (flat_map (λ item. within item.1) (map go (map g ts))) [] (flat_map (λ item. any f item.1) (map g ts))
+    items [] = nothing
+    items (t ∷ ts) = joins (item t) (items ts)
+
+    pub same_items : (ts : List (List ℕ × Option ((t : T) × P t))) → map (λ item. (item.0, tree_of item.1)) (map go (map g ts)) ≡ map g ts
+    same_items [] = refl
+    same_items (t ∷ ts) = λ i. same_item_of t i ∷ same_items ts i

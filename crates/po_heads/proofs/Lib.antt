@@ -6,3 +6,5 @@ pub mod Naming
 mod HavingExpressions
 mod HavingDeclarations
 mod Counting
+mod Counted
+mod CountedStatements

@@ -2,7 +2,7 @@
 -- inside a part is inside the whole.
 use Rattle.std.specs.Prelude.{List, [], ◌∷◌, ◌++◌, map, flat_map, Option, Some, None, Contains}
 use Rattle.po_tree.specs.declared.expression.Exp.{Exp, out-Exp}
-use Rattle.po_tree.specs.declared.expression.Exp.TheOpen.{Exp-F, Specifier-F, Suffix-F}
+use Rattle.po_tree.specs.declared.expression.Exp.TheOpen.{Exp-F, Specifier-F, Suffix-F, Member-F, Param-F}
 use Rattle.po_tree.specs.declared.expression.TypeName.{TypeName}
 use Rattle.po_tree.specs.declared.expression.Specifier.{Specifier, out-Specifier}
 use Rattle.po_tree.specs.declared.expression.Declarator.{Declarator}
@@ -78,6 +78,12 @@ parts_suffix Suffix-F.Plain = []
 parts_suffix (Suffix-F.Arrays sizes) = flat_map (any expression) sizes
 parts_suffix (Suffix-F.Params params more) = map parameter params
 
+abbrev pub parts_member : Member-F Exp Specifier Suffix Declarator Member Param TypeName → List Tree
+parts_member m = map specifier m.specs ++ map declarator m.declarators
+
+abbrev pub parts_param : Param-F Exp Specifier Suffix Declarator Member Param TypeName → List Tree
+parts_param p = map specifier p.specs ++ declarator p.declarator ∷ []
+
 abbrev pub parts_init : Init-F Init → List Tree
 parts_init (Init-F.One x) = expression x ∷ []
 parts_init (Init-F.Many xs more) = map initialiser xs
@@ -109,8 +115,8 @@ parts (type_name t) = map specifier t.specs ++ declarator t.declarator ∷ []
 parts (specifier x) = parts_specifier (out-Specifier x)
 parts (declarator d) = suffix d.suffix ∷ []
 parts (suffix x) = parts_suffix (out-Suffix x)
-parts (member m) = map specifier (out-Member m).specs ++ map declarator (out-Member m).declarators
-parts (parameter p) = map specifier (out-Param p).specs ++ declarator (out-Param p).declarator ∷ []
+parts (member m) = parts_member (out-Member m)
+parts (parameter p) = parts_param (out-Param p)
 parts (initialiser x) = parts_init (out-Init x)
 parts (declaration d) = map specifier d.specs ++ flat_map (λ part. declarator part.0 ∷ any initialiser part.1) d.parts
 parts (statement x) = parts_stmt (out-Stmt x)

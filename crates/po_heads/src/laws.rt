@@ -1,4 +1,4 @@
-ghost use Rattle.std.specs.Prelude.{ℕ, ◌≡◌, ◌<◌, List as Items, flat_map, length, slice_get, Some};
+ghost use Rattle.std.specs.Prelude.{ℕ, ◌≡◌, ◌<◌, ◌↔◌, Contains, List as Items, flat_map, length, slice_get, Some};
 ghost use Rattle.po_tree.specs.declared.declaration.Decl.{Decl as Declaration};
 ghost use Rattle.po_tree.specs.declared.expression.Declarator.{Declarator};
 ghost use Rattle.po_tree.specs.declared.expression.Exp.{Exp as Expression};
@@ -10,6 +10,8 @@ ghost use Rattle.po_tree.specs.Printing.{flat, flat_decl, flat_fun, flat_stmt, p
 ghost use Rattle.po_tree.specs.Signs.{Sign};
 ghost use Rattle.po_tree.specs.Statements.{IsFunction};
 ghost use Rattle.po_heads.specs.Heads.{Ascends, HasHeads, fun_stops, head_places, head_sign, head_signs, heads, signs, stmt_stops, stop_places, stops};
+ghost use Rattle.po_heads.specs.Inside as inside;
+ghost use Rattle.po_heads.specs.Inside.{IsInside};
 ghost use Rattle.po_heads.specs.Marks.{declared, marked, marked_decl, marked_declarator, marked_fun, marked_stmt};
 
 /// The marked tokens of a tree, without their marks, are those that it prints.
@@ -27,6 +29,16 @@ pub fn heads_are_counted()
     ensures declarations { (d : Declaration) → heads (marked_decl d) ≡ head_signs (decl_expressions d) }
     ensures statements { (x : Statement) → heads (marked_stmt x) ≡ head_signs (stmt_expressions x) }
     ensures definitions { (g : Definition) → heads (marked_fun g) ≡ head_signs (fun_expressions g) }
+{}
+
+/// The expressions that are counted in a tree are just those inside it: the tree itself, where it is an expression, and those inside its parts,
+/// through statements, declarations, initialisers, specifiers with their members and enumerators, declarators, parameters and type names. It does
+/// nothing.
+pub fn counted_expressions_are_those_inside()
+    ensures expressions { (x y : Expression) → Contains (expressions x) y ↔ IsInside y (inside.expression x) }
+    ensures declarations { (d : Declaration) (y : Expression) → Contains (decl_expressions d) y ↔ IsInside y (inside.declaration d) }
+    ensures statements { (x : Statement) (y : Expression) → Contains (stmt_expressions x) y ↔ IsInside y (inside.statement x) }
+    ensures definitions { (g : Definition) (y : Expression) → Contains (fun_expressions g) y ↔ IsInside y (inside.definition g) }
 {}
 
 /// Each expression of a well-formed declaration, and of a well-formed definition, has a head: none is a row of no strings.

@@ -5,6 +5,6 @@
 mod laws;
 
 pub use laws::{
-    expressions_have_heads, heads_are_counted, heads_stand, keywords_are_counted, keywords_stand,
-    tokens_are_printed, words_stand,
+    counted_expressions_are_those_inside, expressions_have_heads, heads_are_counted, heads_stand,
+    keywords_are_counted, keywords_stand, tokens_are_printed, words_stand,
 };
