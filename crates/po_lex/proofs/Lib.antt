@@ -16,3 +16,4 @@ mod Words
 mod Texts
 mod Balance
 mod Markers
+mod Numbering

@@ -16,19 +16,19 @@ use Rattle.po_lex.proofs.Texts.{both_true, same_first, literal_stops}
 use Rattle.po_lex.proofs.Directives.{named_so}
 
 -- the bytes don't begin with one that passes the test
-abbrev Stops : (ℕ → Bool) → List ℕ → Type 0
+abbrev pub Stops : (ℕ → Bool) → List ℕ → Type 0
 Stops test [] = Unit {0}
 Stops test (c ∷ cs) = test c ≡ false
 
 -- a row of bytes that pass a test is left behind
-row_left : (row : Row) (test : ℕ → Bool) → ((b c : ℕ) → goes_on row b c ≡ test c) → (b : ℕ) (xs ys : List ℕ) → list_all test xs ≡ true → Stops test ys →
+pub row_left : (row : Row) (test : ℕ → Bool) → ((b c : ℕ) → goes_on row b c ≡ test c) → (b : ℕ) (xs ys : List ℕ) → list_all test xs ≡ true → Stops test ys →
     skip row b (xs ++ ys) ≡ ys
 row_left row test same b [] [] h s = refl
 row_left row test same b [] (y ∷ ys) h s = rw (same b y, s) refl
 row_left row test same b (x ∷ xs) ys h s =
     let both = both_true (test x) (list_all test xs) h in rw (same b x, both.0) (row_left row test same (behind row b x) xs ys both.1 s)
 
-value_of : (n : ℕ) (xs ys : List ℕ) → list_all is_digit xs ≡ true → Stops is_digit ys → value n (xs ++ ys) ≡ value n xs
+pub value_of : (n : ℕ) (xs ys : List ℕ) → list_all is_digit xs ≡ true → Stops is_digit ys → value n (xs ++ ys) ≡ value n xs
 value_of n [] [] h s = refl
 value_of n [] (y ∷ ys) h s = rw s refl
 value_of n (x ∷ xs) ys h s =
@@ -36,7 +36,7 @@ value_of n (x ∷ xs) ys h s =
     let more : value (10 * n + (x - 48)) (xs ++ ys) ≡ value (10 * n + (x - 48)) xs = value_of (10 * n + (x - 48)) xs ys both.1 s in rw both.0 more
 
 -- the characters of a literal are its row
-literal_front : {q : ℕ} {chars : List ℕ} → q ≢ 92 → (before : ℕ) (rest : List ℕ) → (before == 92) ≡ false → Characters q chars →
+pub literal_front : {q : ℕ} {chars : List ℕ} → q ≢ 92 → (before : ℕ) (rest : List ℕ) → (before == 92) ≡ false → Characters q chars →
     front (r.Literal q) before (chars ++ (q ∷ rest)) ≡ chars
 literal_front other before rest at (no_character q) =
     rw (at, same_first q) (elim (q == 10) as (λ v. cond (not v && false) (q ∷ front (r.Literal q) q rest) [] ≡ []) [ true ↦ refl | false ↦ refl ])
@@ -50,7 +50,7 @@ literal_front other before rest at (escape q c cs line k) =
     let b : (92 == q) ≡ false = ne_eqb 92 q (λ w. other (sym w)) in
     let on : front (r.Literal q) 0 (cs ++ (q ∷ rest)) ≡ cs = literal_front other 0 rest refl k in rw (at, b, a) (ap (λ v. 92 ∷ c ∷ v) on)
 
-digit_solid : (c : ℕ) → is_digit c ≡ true → is_space c ≡ false
+pub digit_solid : (c : ℕ) → is_digit c ≡ true → is_space c ≡ false
 digit_solid c h =
     let low : 48 ≤ c = leb-true 48 c (both_true (nat_le 48 c) (nat_le c 57) h).0 in
     let other : (k : ℕ) → 48 ≤ c → (c ≡ k → ⊥) → (c == k) ≡ false = λ k b n. ne_eqb c k n in
@@ -62,18 +62,18 @@ digit_solid c h =
       other 13 low (λ q. omega (arith, low, q)),
     ) refl
 
-blank_no_digit : (c : ℕ) → is_space c ≡ true → is_digit c ≡ false
+pub blank_no_digit : (c : ℕ) → is_space c ≡ true → is_digit c ≡ false
 blank_no_digit c h =
     elim (is_digit c) as (λ b. is_digit c ≡ b → b ≡ false) [
       | true ↦ (λ q. let bad : true ≡ false = sym h ∙ digit_solid c q in absurd (cc))
       | false ↦ (λ q. refl)
     ] refl
 
-behind_digits : (gap rest : List ℕ) → list_all is_space gap ≡ true → Stops is_digit (gap ++ (34 ∷ rest))
+pub behind_digits : (gap rest : List ℕ) → list_all is_space gap ≡ true → Stops is_digit (gap ++ (34 ∷ rest))
 behind_digits [] rest h = refl
 behind_digits (g ∷ gs) rest h = blank_no_digit g (both_true (is_space g) (list_all is_space gs) h).0
 
-quote_no_slash : (quote : ℕ) → (quote == 92) ≡ false → quote ≢ 92
+pub quote_no_slash : (quote : ℕ) → (quote == 92) ≡ false → quote ≢ 92
 quote_no_slash quote h = eqb-false quote 92 h
 
 pub marker_read : (line digits name : List ℕ) → IsMarker line digits name →

@@ -13,7 +13,7 @@ use Rattle.po_lex.specs.declared.part_kind.PartKind.TheVariants as l
 use Rattle.po_lex.specs.declared.effect.Effect.TheVariants as e
 
 -- What a walk over a literal has read when it stops at the quote; behind a backslash one more byte stands before.
-abbrev Read : Bool → ℕ → List ℕ → List ℕ → Type 0
+abbrev pub Read : Bool → ℕ → List ℕ → List ℕ → Type 0
 Read false q xs rest = (chars : List ℕ) × Characters q chars × (xs ≡ chars ++ (q ∷ rest))
 Read true q xs rest = (d : ℕ) × (chars : List ℕ) × (d ≢ 10) × Characters q chars × (xs ≡ d ∷ (chars ++ (q ∷ rest)))
 
@@ -26,7 +26,7 @@ more_read q c cs rest line other true at h =
     (backslash ∷ h.0 ∷ h.1, escape q h.0 h.1 h.2 h.3, ap (λ v. v ∷ cs) same ∙ ap (λ v. 92 ∷ v) h.4)
 more_read q c cs rest line other false at h = (c ∷ h.0, plain_character q c h.0 other (eqb-false c 92 at) line h.1, ap (λ v. c ∷ v) h.2)
 
-literal_read : (q : ℕ) → q ≢ 10 → (before : ℕ) (xs rest : List ℕ) → skip (r.Literal q) before xs ≡ q ∷ rest → Read (before == 92) q xs rest
+pub literal_read : (q : ℕ) → q ≢ 10 → (before : ℕ) (xs rest : List ℕ) → skip (r.Literal q) before xs ≡ q ∷ rest → Read (before == 92) q xs rest
 literal_read q line before [] rest h = absurd (cc)
 literal_read q line before (c ∷ cs) rest h =
     let on : (b : ℕ) → skip (r.Literal q) b cs ≡ q ∷ rest → Read (b == 92) q cs rest = λ b. literal_read q line b cs rest in
@@ -116,7 +116,7 @@ quoted q cs text rest line whole ended =
     let all : q ∷ cs ≡ (q ∷ (so.0 ++ (q ∷ []))) ++ rest = ap (λ v. q ∷ v) (so.2 ∙ sym (append_assoc so.0 (q ∷ []) rest)) in
     (so.0, so.1, text_so (q ∷ cs) text (q ∷ (so.0 ++ (q ∷ []))) rest whole all)
 
-no_line : (q : ℕ) → (q == 10) ≡ false → q ≢ 10
+pub no_line : (q : ℕ) → (q == 10) ≡ false → q ≢ 10
 no_line q h = eqb-false q 10 h
 
 pub string_literal : (fresh : Bool) (bytes : List ℕ) (x : Part) (rest : List ℕ) → Stands fresh bytes x rest → x.part_kind ≡ l.Str → IsLiteral 34 x.text

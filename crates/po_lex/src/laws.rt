@@ -1,4 +1,4 @@
-ghost use Rattle.std.specs.Prelude.{ℕ, ◌≡◌, ◌≤◌, ◌++◌, ◌^◌, Bool, true, false, [], Some, min, map, length, List as Items};
+ghost use Rattle.std.specs.Prelude.{ℕ, ◌≡◌, ◌≤◌, ◌⊎◌, ◌++◌, ◌^◌, Bool, true, false, [], Some, min, map, length, List as Items};
 ghost use Rattle.po_base.specs.declared.token.Token.{Token as Placed};
 ghost use Rattle.po_base.specs.declared.token.Tokens.{Tokens as Lists};
 ghost use Rattle.po_lex.specs.Division.{Part, Divides, AreTokens, ArePlaced, Fails, HasTooMany, Stands, start};
@@ -8,7 +8,7 @@ ghost use Rattle.po_lex.specs.Balance.{Balanced, steps};
 ghost use Rattle.po_lex.specs.Pieces.{ArePieces, IsPiece, IsMisshapen};
 ghost use Rattle.po_lex.specs.Laws.{StandInOrder, Cover};
 ghost use Rattle.po_lex.specs.Directives.{directive_effect, plain, value};
-ghost use Rattle.po_lex.specs.Markers.{IsMarker};
+ghost use Rattle.po_lex.specs.Markers.{IsMarker, IsNamedLine, IsNumberedLine};
 ghost use Rattle.po_lex.specs.Texts.{IsComment, IsLiteral};
 ghost use Rattle.po_lex.specs.declared.keeping.Context.{Context as Before};
 ghost use Rattle.po_lex.specs.declared.shape.Piece.{Piece as Range};
@@ -42,9 +42,18 @@ pub fn literals_of_c_stand()
 {}
 
 /// A line marker, as gcc writes it for C99 6.10.4, is read as one: it gives its number, 2^31 standing for any greater one, and
-/// its name without escapes to the lines after it.
+/// its name without escapes to the lines after it. So is a `#line`, with a name or without.
 pub fn line_markers_are_read()
-    ensures { (line digits name : Items ℕ) → IsMarker line digits name → directive_effect line ≡ Some (Effect.Named (min (2 ^ 31) (value 0 digits)) (plain false name)) }
+    ensures markers { (line digits name : Items ℕ) → IsMarker line digits name → directive_effect line ≡ Some (Effect.Named (min (2 ^ 31) (value 0 digits)) (plain false name)) }
+    ensures names { (line digits name : Items ℕ) → IsNamedLine line digits name → directive_effect line ≡ Some (Effect.Named (min (2 ^ 31) (value 0 digits)) (plain false name)) }
+    ensures numbers { (line digits : Items ℕ) → IsNumberedLine line digits → directive_effect line ≡ Some (Effect.Line (min (2 ^ 31) (value 0 digits))) }
+{}
+
+/// What gives a name to the lines after it is such a line marker, or a `#line` with a name; and what gives them a number alone is a `#line`
+/// without one.
+pub fn line_markers_are_those_of_c()
+    ensures names { (line name : Items ℕ) (n : ℕ) → directive_effect line ≡ Some (Effect.Named n name) → (digits : Items ℕ) × (written : Items ℕ) × (IsMarker line digits written ⊎ IsNamedLine line digits written) × (n ≡ min (2 ^ 31) (value 0 digits)) × (name ≡ plain false written) }
+    ensures numbers { (line : Items ℕ) (n : ℕ) → directive_effect line ≡ Some (Effect.Line n) → (digits : Items ℕ) × IsNumberedLine line digits × (n ≡ min (2 ^ 31) (value 0 digits)) }
 {}
 
 /// The bytes of a file have one division at most.

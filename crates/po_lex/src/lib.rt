@@ -23,9 +23,10 @@ pub use extension::Extension;
 pub use keeping::{Context, kept};
 pub use laws::{
     balanced_brackets, comments_are_those_of_c, kept_are_selected, line_markers_are_read,
-    literals_are_those_of_c, literals_of_c_stand, longest_part_stands, one_division, one_failure,
-    one_kept_list, one_piece_list, one_shape_failure, one_token_list, pieces_are_balanced,
-    pieces_cover, pieces_or_failure, texts_stand_in_order, tokens_are_placed, tokens_or_failure,
+    line_markers_are_those_of_c, literals_are_those_of_c, literals_of_c_stand, longest_part_stands,
+    one_division, one_failure, one_kept_list, one_piece_list, one_shape_failure, one_token_list,
+    pieces_are_balanced, pieces_cover, pieces_or_failure, texts_stand_in_order, tokens_are_placed,
+    tokens_or_failure,
 };
 pub use lexing::{LexFail, tokens};
 pub use nesting::Open;
