@@ -1,7 +1,7 @@
 -- The first sign of a statement tells its rule; behind a name, so does the second. Expressions and declarations begin otherwise.
 use Rattle.std.proofs.Common.{◌≡◌, ◌∙◌, ℕ, List, [], ◌∷◌, ◌++◌, map, flat_map, Bool, true, false, cond, refl, sym, ap, subst, arith, codes, bytes_eq, true≢false, ◌⊎◌, inl, inr, not}
 use Rattle.std.specs.Prelude.{Contains, Option, Some}
-use Rattle.std.proofs.lemmas.Bool.{or_parts}
+use Rattle.std.proofs.lemmas.Bool.{or_parts, not-true}
 use Rattle.std.proofs.lemmas.Slice.Eq.{bytes_eq-Decides}
 use Rattle.po_lists.proofs.Booleans.{false_unless_true}
 use Rattle.po_base.specs.declared.token.TokenKind.{TokenKind}
@@ -126,13 +126,9 @@ plain_name_kind ts is none = name_kind ts is ∙ ap (λ b. cond b by_label other
 abbrev declaring_words : List (List ℕ)
 declaring_words = codes "struct" ∷ codes "enum" ∷ codes "inline" ∷ storage_classes ++ qualifiers ++ type_words
 
-not_false : (b : Bool) → not b ≡ true → b ≡ false
-not_false true h = sym h
-not_false false h = refl
-
 declaring_kind : {text : List ℕ} (ts : List Sign) → Contains declaring_words text → kind_first (word text ∷ ts) ≡ otherwise
 declaring_kind {text = text} ts h =
-    kind_none kinds_of_words text (kind_of_name text ts) (not_false (is_among statement_words text) (each_tested (λ x. not (is_among statement_words x)) declaring_words text h.0 refl h.1 h.2)) ∙
+    kind_none kinds_of_words text (kind_of_name text ts) (not-true (is_among statement_words text) (each_tested (λ x. not (is_among statement_words x)) declaring_words text h.0 refl h.1 h.2)) ∙
     ap (λ b. cond b otherwise (cond (colon_first ts) by_label otherwise)) (among_found keywords text (within declaring_words keywords text refl h))
 
 -- expressions

@@ -1,7 +1,7 @@
 -- Brackets are balanced exactly where the walk over them leaves none open.
 use Rattle.std.proofs.Common.{◌≡◌, ℕ, Bool, true, false, cond, List, [], ◌∷◌, ◌++◌, sym, ap, refl, ◌∙◌, subst, append_assoc, append-nil}
 use Rattle.std.specs.Prelude.{Option, Some, None, ◌==◌, ◌&&◌, ◌||◌, not}
-use Rattle.std.proofs.lemmas.Bool.{eqb-true, eq-eqb}
+use Rattle.std.proofs.lemmas.Bool.{and_parts, eqb-true, eq-eqb}
 use Rattle.po_base.specs.declared.token.Token.{Token}
 use Rattle.po_lex.specs.Brackets.{State, outset, step, behind_mark, pop, ends, ends_in, mark, closer, is_closer}
 use Rattle.po_lex.specs.Balance.{is_bracket, Matches, Balanced, no_token, and_token, and_group, steps}
@@ -177,15 +177,11 @@ all_closed [] begins t now h q =
     let there : Some (record { stack = []; begins = false }) ≡ Some now = sym (rw same refl) ∙ q in
     let so : record { stack = []; begins = false } ≡ now = cc in sym (ap (λ v. v.stack) so)
 all_closed (x ∷ []) begins t now h q =
-    let same : mark t ≡ 125 = eqb-true (mark t) 125 (second x.body (mark t == 125) h) in
+    let same : mark t ≡ 125 = eqb-true (mark t) 125 (and_parts x.body (mark t == 125) h).1 in
     elim (x.close == 125) as (λ b. behind_mark 125 (cond b (Some []) None) ≡ Some now → now.stack ≡ []) [
       | true ↦ (λ k. let so : record { stack = []; begins = false } ≡ now = cc in sym (ap (λ v. v.stack) so))
       | false ↦ (λ k. absurd (cc))
     ] (sym (rw same refl) ∙ q)
-  where
-    second : (a b : Bool) → (a && b) ≡ true → b ≡ true
-    second true b h = h
-    second false b h = absurd (cc)
 all_closed (x ∷ y ∷ xs) begins t now h q = absurd (cc)
 
 pub piece_balanced : (tokens : List Token) (body : Bool) → IsPiece tokens body → Balanced tokens

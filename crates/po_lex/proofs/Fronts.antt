@@ -1,7 +1,8 @@
 -- One more part of a division, and what its end and its failure mean.
+use Rattle.std.proofs.lemmas.Bool.{and_parts}
 use Rattle.std.proofs.Common.{◌≡◌, ℕ, ◌+◌, ◌^◌, ◌<◌, ◌≤◌, Bool, true, false, List, [], ◌∷◌, ◌++◌, length, arith, sym, ap, refl, ◌∙◌, subst, append_assoc, append-nil}
 use borrow.Author.Tests.{ltb-true}
-use Rattle.std.specs.Prelude.{◌==◌, ◌&&◌, nat_lt, Result, Ok, Err, IfOk, IfErr, OnOk}
+use Rattle.std.specs.Prelude.{◌==◌, nat_lt, Result, Ok, Err, IfOk, IfErr, OnOk}
 use Rattle.std.proofs.lemmas.List.Sums.{count_by-le-length}
 use Rattle.po_base.specs.declared.token.Token.{Token}
 use Rattle.po_base.specs.declared.token.Tokens.{Tokens}
@@ -57,10 +58,6 @@ pub step : (name bytes left rest : List ℕ) (front : List Part) (old new : Lexe
 step name bytes left rest front old new x d h s more =
     (front ++ x ∷ [], divides_more start front bytes left x rest d (subst (λ v. Stands v.fresh left x rest) h.position s), more name front h)
 
-first_true : (a b : Bool) → (a && b) ≡ true → a ≡ true
-first_true true b h = refl
-first_true false b h = h
-
 -- a number that a line marker gives is small
 pub next_small : (part_kind : PartKind) (fresh : Bool) (text : List ℕ) (effect : Effect) (next n : ℕ) → HasEffect part_kind fresh text effect → next ≤ 2 ^ 31 + n →
     next_line effect next ≤ 2 ^ 31 + n
@@ -68,7 +65,7 @@ next_small l.Directive fresh text e.Silent next n h k = k
 next_small l.Directive fresh text (e.Line m) next n h k =
     let small : m < 2 ^ 31 = ltb-true m (2 ^ 31) h.2 in omega arith
 next_small l.Directive fresh text (e.Named m name) next n h k =
-    let small : m < 2 ^ 31 = ltb-true m (2 ^ 31) (first_true (nat_lt m (2 ^ 31)) (is_name name) h.2) in omega arith
+    let small : m < 2 ^ 31 = ltb-true m (2 ^ 31) (and_parts (nat_lt m (2 ^ 31)) (is_name name) h.2).0 in omega arith
 next_small l.Blank fresh text effect next n h k = rw h k
 next_small l.Splice fresh text effect next n h k = rw h k
 next_small l.Comment fresh text effect next n h k = rw h k

@@ -2,7 +2,7 @@
 use Rattle.std.proofs.Common.{◌≡◌, ℕ, ◌+◌, ◌-◌, ◌<◌, ◌≤◌, Bool, true, false, cond, List, [], ◌∷◌, ◌++◌, length, get_or, take, drop, arith, sym, ap, refl, ◌∙◌, subst, inl, inr}
 use Rattle.std.specs.Prelude.{◌==◌, ◌&&◌, ◌||◌, max, nat_eq}
 use Rattle.std.specs.List.{starts_with}
-use Rattle.std.proofs.lemmas.Bool.{eqb-true, cases_lt}
+use Rattle.std.proofs.lemmas.Bool.{and_parts, eqb-true, cases_lt}
 use Rattle.std.proofs.lemmas.Slice.Eq.{bytes_eq-Decides}
 use Rattle.std.proofs.lemmas.List.Recursion.{is_count_by}
 use Rattle.std.proofs.lemmas.List.{take_more, drop_more, take-append-drop, append_cancel_right}
@@ -79,14 +79,6 @@ lineless kind close (c ∷ cs) end none closed other some ended =
     let none_in : 0 ≡ ends (take end (c ∷ cs)) = omega (arith, all, first, rest, none_closed) in
     none_in ∙ ends_so (take end (c ∷ cs))
 
-first_so : (a b : Bool) → (a && b) ≡ true → a ≡ true
-first_so true b h = refl
-first_so false b h = h
-
-second_so : (a b : Bool) → (a && b) ≡ true → b ≡ true
-second_so true b h = h
-second_so false b h = absurd (cc)
-
 abbrev are_lineless : List (List ℕ) → Bool
 are_lineless [] = true
 are_lineless (x ∷ xs) = (newlines x == 0) && are_lineless xs
@@ -96,8 +88,8 @@ longest_lineless : (xs : List (List ℕ)) (bytes : List ℕ) → are_lineless xs
 longest_lineless [] bytes h = refl
 longest_lineless (x ∷ xs) bytes h =
     let n : ℕ = longest xs bytes in
-    let rest : newlines (take n bytes) ≡ 0 = longest_lineless xs bytes (second_so (newlines x == 0) (are_lineless xs) h) in
-    let this : newlines x ≡ 0 = eqb-true (newlines x) 0 (first_so (newlines x == 0) (are_lineless xs) h) in
+    let rest : newlines (take n bytes) ≡ 0 = longest_lineless xs bytes (and_parts (newlines x == 0) (are_lineless xs) h).1 in
+    let this : newlines x ≡ 0 = eqb-true (newlines x) 0 (and_parts (newlines x == 0) (are_lineless xs) h).0 in
     elim (starts_with nat_eq bytes x) as (λ b. starts_with nat_eq bytes x ≡ b → newlines (take (cond b (max (length x) n) n) bytes) ≡ 0) [
       | true ↦ (λ q. let same : x ≡ take (length x) bytes = (bytes_eq-Decides x (take (length x) bytes)).0 q in
           elim (cases_lt (length x) n) as (λ _. newlines (take (max (length x) n) bytes) ≡ 0) [

@@ -3,7 +3,7 @@ use Rattle.std.proofs.Common.{◌≡◌, ℕ, ◌+◌, ◌*◌, ◌-◌, ◌^◌
 use borrow.Author.Tests.{leb-true}
 use Rattle.std.specs.Prelude.{◌≢◌, ◌==◌, ◌&&◌, ◌||◌, not, nat_le, min, Some}
 use Rattle.std.specs.List.{list_all}
-use Rattle.std.proofs.lemmas.Bool.{eqb-false}
+use Rattle.std.proofs.lemmas.Bool.{and_parts, eqb-false}
 use Rattle.po_lex.specs.Bytes.{is_space, is_digit}
 use Rattle.po_lex.specs.Rows.{goes_on, behind, front, skip}
 use Rattle.po_lex.specs.Directives.{value, number, plain, solid, named, marker, directive_effect_at, directive_effect}
@@ -12,7 +12,7 @@ use Rattle.po_lex.specs.Markers.{IsMarker}
 use Rattle.po_lex.specs.declared.row.Row.{Row}
 use Rattle.po_lex.specs.declared.row.Row.TheVariants as r
 use Rattle.po_lex.specs.declared.effect.Effect.TheVariants as e
-use Rattle.po_lex.proofs.Texts.{both_true, same_first, literal_stops}
+use Rattle.po_lex.proofs.Texts.{same_first, literal_stops}
 use Rattle.po_lex.proofs.Directives.{named_so}
 
 -- the bytes don't begin with one that passes the test
@@ -26,13 +26,13 @@ pub row_left : (row : Row) (test : ℕ → Bool) → ((b c : ℕ) → goes_on ro
 row_left row test same b [] [] h s = refl
 row_left row test same b [] (y ∷ ys) h s = rw (same b y, s) refl
 row_left row test same b (x ∷ xs) ys h s =
-    let both = both_true (test x) (list_all test xs) h in rw (same b x, both.0) (row_left row test same (behind row b x) xs ys both.1 s)
+    let both = and_parts (test x) (list_all test xs) h in rw (same b x, both.0) (row_left row test same (behind row b x) xs ys both.1 s)
 
 pub value_of : (n : ℕ) (xs ys : List ℕ) → list_all is_digit xs ≡ true → Stops is_digit ys → value n (xs ++ ys) ≡ value n xs
 value_of n [] [] h s = refl
 value_of n [] (y ∷ ys) h s = rw s refl
 value_of n (x ∷ xs) ys h s =
-    let both = both_true (is_digit x) (list_all is_digit xs) h in
+    let both = and_parts (is_digit x) (list_all is_digit xs) h in
     let more : value (10 * n + (x - 48)) (xs ++ ys) ≡ value (10 * n + (x - 48)) xs = value_of (10 * n + (x - 48)) xs ys both.1 s in rw both.0 more
 
 -- the characters of a literal are its row
@@ -52,7 +52,7 @@ literal_front other before rest at (escape q c cs line k) =
 
 pub digit_solid : (c : ℕ) → is_digit c ≡ true → is_space c ≡ false
 digit_solid c h =
-    let low : 48 ≤ c = leb-true 48 c (both_true (nat_le 48 c) (nat_le c 57) h).0 in
+    let low : 48 ≤ c = leb-true 48 c (and_parts (nat_le 48 c) (nat_le c 57) h).0 in
     let other : (k : ℕ) → 48 ≤ c → (c ≡ k → ⊥) → (c == k) ≡ false = λ k b n. ne_eqb c k n in
     rw (
       other 32 low (λ q. omega (arith, low, q)),
@@ -71,7 +71,7 @@ blank_no_digit c h =
 
 pub behind_digits : (gap rest : List ℕ) → list_all is_space gap ≡ true → Stops is_digit (gap ++ (34 ∷ rest))
 behind_digits [] rest h = refl
-behind_digits (g ∷ gs) rest h = blank_no_digit g (both_true (is_space g) (list_all is_space gs) h).0
+behind_digits (g ∷ gs) rest h = blank_no_digit g (and_parts (is_space g) (list_all is_space gs) h).0
 
 pub quote_no_slash : (quote : ℕ) → (quote == 92) ≡ false → quote ≢ 92
 quote_no_slash quote h = eqb-false quote 92 h
@@ -83,7 +83,7 @@ marker_read line (d ∷ ds) name h =
     let quote : List ℕ = 34 ∷ (name ++ (34 ∷ h.flags)) in
     let tail : List ℕ = h.gap ++ quote in
     let xs : List ℕ = d ∷ (ds ++ tail) in
-    let digit : is_digit d ≡ true = (both_true (is_digit d) (list_all is_digit ds) h.are_digits).0 in
+    let digit : is_digit d ≡ true = (and_parts (is_digit d) (list_all is_digit ds) h.are_digits).0 in
     let stops : Stops is_digit tail = behind_digits h.gap (name ++ (34 ∷ h.flags)) h.is_gap in
     let solid_line : solid line ≡ xs = ap (skip r.Spaces 0) h.whole ∙ row_left r.Spaces is_space (λ b c. refl) 0 h.blanks xs h.are_blanks (digit_solid d digit) in
     let after : skip r.Digits 0 xs ≡ tail = row_left r.Digits is_digit (λ b c. refl) 0 (d ∷ ds) tail h.are_digits stops in

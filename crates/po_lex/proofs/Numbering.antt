@@ -2,7 +2,7 @@
 use Rattle.std.proofs.Common.{◌≡◌, ◌≤◌, inl, inr, arith, rules, tests, ne_eqb, drop, ℕ, ◌^◌, Bool, true, false, cond, List, [], ◌∷◌, ◌++◌, sym, ap, refl, ◌∙◌, subst, append-nil}
 use Rattle.std.specs.Prelude.{◌≢◌, ◌==◌, ◌&&◌, ◌||◌, not, nat_le, min, Option, Some, None, codes, ◌⊎◌}
 use Rattle.std.specs.List.{list_all}
-use Rattle.std.proofs.lemmas.Bool.{cases_lt, eqb-true}
+use Rattle.std.proofs.lemmas.Bool.{and_parts, cases_lt, eqb-true}
 use Rattle.std.proofs.lemmas.Slice.Eq.{bytes_eq-Decides}
 use Rattle.po_lex.specs.Bytes.{is_space, is_digit, begins_word}
 use Rattle.po_lex.specs.Rows.{goes_on, behind, front, skip}
@@ -13,7 +13,7 @@ use Rattle.po_lex.specs.declared.row.Row.{Row}
 use Rattle.po_lex.specs.declared.row.Row.TheVariants as r
 use Rattle.po_lex.specs.declared.effect.Effect.{Effect}
 use Rattle.po_lex.specs.declared.effect.Effect.TheVariants as e
-use Rattle.po_lex.proofs.Texts.{both_true, Read, literal_read, literal_stops, no_line}
+use Rattle.po_lex.proofs.Texts.{Read, literal_read, literal_stops, no_line}
 use Rattle.po_lex.proofs.Directives.{named_so}
 use Rattle.po_lex.proofs.Markers.{Stops, row_left, value_of, literal_front, digit_solid, blank_no_digit, behind_digits, quote_no_slash}
 
@@ -75,10 +75,10 @@ record Quoted (tail : Row) (xs name : List ℕ) : Type 0 where
 
 closed : (tail : Row) (c : ℕ) (cs u name : List ℕ) → skip (r.Literal 34) 0 cs ≡ u → (((c == 34) && begins_quote u) && is_end (skip tail 0 (drop 1 u))) ≡ true → name ≡ plain false (front (r.Literal 34) 0 cs) →
     Quoted tail (c ∷ cs) name
-closed tail c cs [] name q h n = let bad : false ≡ true = (both_true (c == 34) false (both_true ((c == 34) && false) true h).0).1 in absurd (cc)
+closed tail c cs [] name q h n = let bad : false ≡ true = (and_parts (c == 34) false (and_parts ((c == 34) && false) true h).0).1 in absurd (cc)
 closed tail c cs (d ∷ ds) name q h n =
-    let all = both_true ((c == 34) && (d == 34)) (is_end (skip tail 0 ds)) h in
-    let quotes = both_true (c == 34) (d == 34) all.0 in
+    let all = and_parts ((c == 34) && (d == 34)) (is_end (skip tail 0 ds)) h in
+    let quotes = and_parts (c == 34) (d == 34) all.0 in
     let first : c ≡ 34 = eqb-true c 34 quotes.0 in
     let second : d ≡ 34 = eqb-true d 34 quotes.1 in
     let so : Read false 34 cs ds = literal_read 34 (no_line 34 refl) 0 cs ds (q ∙ ap (λ v. v ∷ ds) second) in
@@ -285,15 +285,15 @@ no_word c low =
 -- behind the word `line` stands no byte of a word
 word_ends : (gap rest : List ℕ) → gap ≢ [] → list_all is_space gap ≡ true → Stops is_word_byte (gap ++ rest)
 word_ends [] rest some h = absurd (some refl)
-word_ends (g ∷ gs) rest some h = no_word g (space_low g (both_true (is_space g) (list_all is_space gs) h).0)
+word_ends (g ∷ gs) rest some h = no_word g (space_low g (and_parts (is_space g) (list_all is_space gs) h).0)
 
 digits_solid : (digits left : List ℕ) → digits ≢ [] → list_all is_digit digits ≡ true → Stops is_space (digits ++ left)
 digits_solid [] left some h = absurd (some refl)
-digits_solid (d ∷ ds) left some h = digit_solid d (both_true (is_digit d) (list_all is_digit ds) h).0
+digits_solid (d ∷ ds) left some h = digit_solid d (and_parts (is_digit d) (list_all is_digit ds) h).0
 
 digits_begin : (digits left : List ℕ) → digits ≢ [] → list_all is_digit digits ≡ true → begins_digit (digits ++ left) ≡ true
 digits_begin [] left some h = absurd (some refl)
-digits_begin (d ∷ ds) left some h = (both_true (is_digit d) (list_all is_digit ds) h).0
+digits_begin (d ∷ ds) left some h = (and_parts (is_digit d) (list_all is_digit ds) h).0
 
 -- `line` with what stands behind it
 module _ (line blanks gap digits left : List ℕ) (some : digits ≢ []) (apart : gap ≢ []) (are_blanks : list_all is_space blanks ≡ true) (is_gap : list_all is_space gap ≡ true)
@@ -335,7 +335,7 @@ module _ (line blanks gap digits left : List ℕ) (some : digits ≢ []) (apart 
 
 blank_stops : (space : List ℕ) → list_all is_space space ≡ true → Stops is_digit space
 blank_stops [] h = tt
-blank_stops (c ∷ cs) h = blank_no_digit c (both_true (is_space c) (list_all is_space cs) h).0
+blank_stops (c ∷ cs) h = blank_no_digit c (and_parts (is_space c) (list_all is_space cs) h).0
 
 pub numbered_line_read : (line digits : List ℕ) → IsNumberedLine line digits → directive_effect line ≡ Some (e.Line (min (2 ^ 31) (value 0 digits)))
 numbered_line_read line digits h =

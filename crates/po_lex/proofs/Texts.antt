@@ -1,7 +1,7 @@
 -- The walk over a literal or a comment ends where the standard says.
 use Rattle.std.proofs.Common.{◌≡◌, ℕ, ◌+◌, Bool, true, false, cond, List, [], ◌∷◌, ◌++◌, length, drop, arith, sym, ap, refl, ◌∙◌, subst, append_assoc, length-append, ne_eqb}
 use Rattle.std.specs.Prelude.{◌≢◌, ◌==◌, ◌&&◌, ◌||◌, not}
-use Rattle.std.proofs.lemmas.Bool.{eqb-true, eqb-false, eq-eqb, false_from_ne_true}
+use Rattle.std.proofs.lemmas.Bool.{and_parts, eqb-true, eqb-false, eq-eqb, false_from_ne_true}
 use Rattle.std.proofs.lemmas.List.{append_cancel_right}
 use Rattle.po_lex.specs.Rows.{skip}
 use Rattle.po_lex.specs.PartKinds.{opening, row_of, closing}
@@ -168,10 +168,6 @@ character_stands fresh text rest h =
     subst (λ v. Stands fresh (v ++ rest) (record { part_kind = l.Char; text = v; effect = e.Silent }) rest) (sym h.2)
     (subst (λ v. Stands fresh v (record { part_kind = l.Char; text = literal 39 chars; effect = e.Silent }) rest) (sym all) there)
 
-pub both_true : (a b : Bool) → (a && b) ≡ true → (a ≡ true) × (b ≡ true)
-both_true true b h = (refl, h)
-both_true false b h = absurd (cc)
-
 -- two bytes that a test tells apart
 apart : (a b : ℕ) → (a == b) ≡ false → a ≡ b → ⊥
 apart a b h = eqb-false a b h
@@ -205,7 +201,7 @@ comment_read before [] rest h = absurd (cc)
 comment_read before (c ∷ cs) rest h =
     elim ((before == 42) && (c == 47)) as (λ b. ((before == 42) && (c == 47)) ≡ b → cond (not b) (skip r.Comment c cs) (c ∷ cs) ≡ 47 ∷ rest →
     (mid : List ℕ) × (before ∷ (c ∷ cs) ≡ mid ++ (42 ∷ 47 ∷ rest)) × HasNoEnd (mid ++ (42 ∷ []))) [
-      | true ↦ (λ q k. let star : before ≡ 42 = eqb-true before 42 (both_true (before == 42) (c == 47) q).0 in
+      | true ↦ (λ q k. let star : before ≡ 42 = eqb-true before 42 (and_parts (before == 42) (c == 47) q).0 in
           ([], ap (λ v. v ∷ (c ∷ cs)) star ∙ ap (λ v. 42 ∷ v) k, one_end))
       | false ↦ (λ q k. let so = comment_read c cs rest k in (before ∷ so.0, ap (λ v. before ∷ v) so.1, longer before c cs so.0 rest q so.1 so.2))
     ] refl h
@@ -233,7 +229,7 @@ comment_stops (m ∷ ms) before (c ∷ cs) rest parts none =
     let left : c ∷ cs ≡ ms ++ (42 ∷ 47 ∷ rest) = cc in
     let on : skip r.Comment c cs ≡ 47 ∷ rest = comment_stops ms c cs rest left (λ a b q. none (m ∷ a) b (ap (λ v. m ∷ v) q)) in
     let other : ((before == 42) && (c == 47)) ≡ false =
-    false_from_ne_true ((before == 42) && (c == 47)) (λ t. let found = both_true (before == 42) (c == 47) t in
+    false_from_ne_true ((before == 42) && (c == 47)) (λ t. let found = and_parts (before == 42) (c == 47) t in
     let end = begins_end ms c cs rest left (eqb-true c 47 found.1) in
     none [] end.0 (ap (λ v. v ∷ (ms ++ (42 ∷ []))) (first ∙ eqb-true before 42 found.0) ∙ ap (λ v. 42 ∷ v) end.1)) in
     rw other on
@@ -260,10 +256,10 @@ pub comment_text : (fresh : Bool) (bytes : List ℕ) (x : Part) (rest : List ℕ
 comment_text fresh [] x rest h q = let bad : l.Punctuator ≡ l.Comment = sym h.begun ∙ q in absurd (cc)
 comment_text fresh (c ∷ []) x rest h q =
     let first : ((c == 47) && (0 == 42)) ≡ true = comment_line _ _ ((c == 47) && (0 == 42)) _ _ _ _ _ _ (sym h.begun ∙ q) in
-    let second : (0 == 42) ≡ true = (both_true (c == 47) (0 == 42) first).1 in absurd (cc)
+    let second : (0 == 42) ≡ true = (and_parts (c == 47) (0 == 42) first).1 in absurd (cc)
 comment_text fresh (c ∷ d ∷ cs) x rest h q =
     let first : ((c == 47) && (d == 42)) ≡ true = comment_line _ _ ((c == 47) && (d == 42)) _ _ _ _ _ _ (sym h.begun ∙ q) in
-    let both = both_true (c == 47) (d == 42) first in
+    let both = and_parts (c == 47) (d == 42) first in
     let slash : c ≡ 47 = eqb-true c 47 both.0 in
     let star : d ≡ 42 = eqb-true d 42 both.1 in
     let ended : skip r.Comment 0 cs ≡ 47 ∷ rest = subst (λ v. skip (row_of v) 0 (drop (opening v (c ∷ d ∷ cs)) (c ∷ d ∷ cs)) ≡ closing v ++ rest) q h.ended in
