@@ -9,3 +9,4 @@ mod Promoting
 mod Lays
 pub mod NestingLaws
 pub mod TypesLaws
+mod Replaced

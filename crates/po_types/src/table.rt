@@ -1,4 +1,6 @@
-ghost use Rattle.std.specs.Prelude.{◌≡◌, ◌<◌, [], ◌∷◌, ◌++◌, ℕ, List, length, get_or, None, IfOk, OnOk, OnErr};
+ghost use Rattle.std.specs.Prelude.{◌≡◌, ◌<◌, [], ◌∷◌, ◌++◌, ℕ, List, length, take, get_or, nat_eq, None, Some, IsSome, IfOk, OnOk, OnErr};
+ghost use Rattle.std.specs.Cmp.Lexicographic.{pointwise};
+ghost use Rattle.std.specs.Map.{set_value};
 ghost use Rattle.std.specs.Option.{option_copied};
 ghost use Rattle.po_types.specs.Tables.{found};
 
@@ -67,5 +69,25 @@ impl<V: Drop> Table<V> {
             Ok(_) => Ok(()),
             Err(_) => Err(Memory),
         }
+    }
+
+    /// Replaces what a name that is there stands for, in constant time on the average, and gives what it stood for.
+    pub fn replace(&mut self, name: Text, value: V) -> V
+        requires { IsSome (found self.old name) }
+        ensures old { found self.old name ≡ Some result }
+        ensures replaced { self.new ≡ set_value (pointwise nat_eq name) self.old value }
+    {
+        match self.entries.insert(name, value) {
+            Ok(Some(old)) => old,
+            Ok(None) => unreachable!(),
+            Err(_) => unreachable!(),
+        }
+    }
+
+    /// Lets go of all names but the first `len`.
+    pub fn truncate(&mut self, len: usize)
+        ensures { self.new ≡ take len self.old }
+    {
+        self.entries.truncate(len);
     }
 }
