@@ -1,3 +1,4 @@
+// What `? :` makes of two values, by their types and forms.
 ghost use Rattle.std.specs.Prelude.{◌≡◌, IfOk};
 ghost use Rattle.po_tree.specs.declared.expression.Exp.{Exp as Tree};
 ghost use Rattle.po_types.specs.Types as types;

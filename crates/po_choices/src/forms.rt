@@ -1,3 +1,4 @@
+// The form of an integer constant expression.
 ghost use Rattle.std.specs.Prelude.{IfOk};
 ghost use Rattle.po_tree.specs.declared.expression.Exp.{out-Exp};
 ghost use Rattle.po_typed.specs.Expressions.{IsForm};

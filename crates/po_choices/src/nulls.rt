@@ -1,3 +1,4 @@
+// Constants 0 and null pointers.
 ghost use Rattle.std.specs.Prelude.{IfOk};
 ghost use Rattle.po_tree.specs.declared.expression.Exp.{out-Exp};
 ghost use Rattle.po_typed.specs.Expressions.{IsNull, IsNullPointer};

@@ -1,3 +1,4 @@
+// Operands without operands that are 0, and what type names of casts say.
 ghost use Rattle.std.specs.Prelude.{IfOk};
 ghost use Rattle.po_tree.specs.declared.expression.Exp.TheOpen.{Exp-F};
 ghost use Rattle.po_types.specs.declared.ctype.CType.TheVariants as c;
