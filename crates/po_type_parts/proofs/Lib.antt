@@ -1,0 +1,5 @@
+mod AssignedTypes
+mod DesignatedTypes
+mod JoinedTypes
+mod PartsOfTypings
+mod PrintedTypes

@@ -1,0 +1,4 @@
+pub mod Converting
+pub mod Designating
+pub mod Joining
+pub mod Laws
