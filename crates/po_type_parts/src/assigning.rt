@@ -1,3 +1,4 @@
+// What a value is converted to where it is assigned or cast.
 ghost use Rattle.std.specs.Prelude.{◌≡◌, ◌↔◌, IsTrue, IfOk};
 ghost use Rattle.po_tree.specs.declared.expression.Exp.{Exp as Tree};
 ghost use Rattle.po_types.specs.Integers as integers;

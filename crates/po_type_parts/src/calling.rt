@@ -1,3 +1,4 @@
+// The function that a call names.
 ghost use Rattle.std.specs.Prelude.{MatchOption};
 ghost use Rattle.po_types.specs.declared.ctype.CType.{CType as TypeOf};
 ghost use Rattle.po_type_parts.specs.Designating.{IsCallee};

@@ -1,3 +1,4 @@
+// What binary operators and compound assignments make of two operands.
 ghost use Rattle.std.specs.Prelude.{◌≡◌, IfOk, Contains};
 ghost use Rattle.po_types.specs.declared.ctype.CType.TheVariants as c;
 ghost use Rattle.po_typed.specs.Operands.{equality_operators};

@@ -1,3 +1,4 @@
+// The types of what subscripts and members designate.
 ghost use Rattle.std.specs.Prelude.{◌≡◌, MatchOption};
 ghost use Rattle.po_types.specs.declared.ctype.CType.{CType as TypeOf};
 ghost use Rattle.po_typed.specs.Operands.{IsComplete};

@@ -1,3 +1,4 @@
+// What an argument of `printf` is converted to.
 ghost use Rattle.std.specs.Prelude.{◌≡◌, ◌⊎◌, IfOk};
 ghost use Rattle.po_types.specs.Integers as integers;
 ghost use Rattle.po_types.specs.declared.ctype.CType.TheVariants as c;

@@ -1,3 +1,4 @@
+// What the operand of a sign is converted to.
 ghost use Rattle.po_constants.specs.Found.{Finds};
 ghost use Rattle.po_type_parts.specs.Converting.{Promotes};
 
