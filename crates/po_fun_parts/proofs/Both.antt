@@ -130,9 +130,9 @@ module _ {types : List (List ℕ)} where
   )
 
   -- what goes on behind one start goes on behind the same
-  started_as : {signs left rest : List Sign} {s : Stmt} {begun other : Start} → begun ≡ other → StatementStands types signs s rest ↔ Continues types other left s rest →
+  started_as : (left : List Sign) {signs rest : List Sign} {s : Stmt} {begun other : Start} → begun ≡ other → StatementStands types signs s rest ↔ Continues types other left s rest →
       StatementStands types signs s rest ↔ Continues types begun left s rest
-  started_as {signs = signs} {left = left} {rest = rest} {s = s} q h = subst (λ z. StatementStands types signs s rest ↔ Continues types z left s rest) (sym q) h
+  started_as left {signs = signs} {rest = rest} {s = s} q h = subst (λ z. StatementStands types signs s rest ↔ Continues types z left s rest) (sym q) h
 
   do_both : {ts left rest : List Sign} {s : Stmt} → ts ≡ left → StatementStands types (word (codes "do") ∷ ts) s rest ↔ RepeatedThen types left s rest
   do_both {ts = ts} {rest = rest} {s = s} q = subst (λ z. StatementStands types (word (codes "do") ∷ ts) s rest ↔ RepeatedThen types z s rest) q (do_on, do_made)
@@ -140,24 +140,24 @@ module _ {types : List (List ℕ)} where
   default_both : {ts left rest : List Sign} {s : Stmt} → ts ≡ colon ∷ left → StatementStands types (word (codes "default") ∷ ts) s rest ↔ BodyThen st.Default types left s rest
   default_both {left = left} {rest = rest} {s = s} q = subst (λ z. StatementStands types (word (codes "default") ∷ z) s rest ↔ BodyThen st.Default types left s rest) (sym q) (default_on, default_made)
 
-  keyword_both : {ts left rest : List Sign} {s : Stmt} (w : Keyword) (begun : Start) → StartsBehind w types ts begun left →
+  keyword_both : (left : List Sign) {ts rest : List Sign} {s : Stmt} (w : Keyword) (begun : Start) → StartsBehind w types ts begun left →
       StatementStands types (word (spelling w) ∷ ts) s rest ↔ Continues types begun left s rest
-  keyword_both keyword.If begun h = started_as h.1 (if_on h.2, if_made h.2)
-  keyword_both keyword.While begun h = started_as h.1 (while_on h.2, while_made h.2)
-  keyword_both keyword.Do begun h = started_as h.0 (do_both h.1)
-  keyword_both keyword.For begun (inl (first, test, step, q, h)) = started_as q (for_on h, for_made h)
-  keyword_both keyword.For begun (inr (q, h)) = started_as q (variables_on h, variables_made h)
-  keyword_both keyword.Switch begun h = started_as h.1 (switch_on h.2, switch_made h.2)
-  keyword_both keyword.Case begun h = started_as h.1 (case_on h.2, case_made h.2)
-  keyword_both keyword.Default begun h = started_as h.0 (default_both h.1)
-  keyword_both keyword.Goto begun h = started_as h.1 (goto_both h.2 h.3)
-  keyword_both keyword.Break begun h = started_as h.0 (break_both h.1)
-  keyword_both keyword.Continue begun h = started_as h.0 (continue_both h.1)
-  keyword_both keyword.Return begun h = started_as h.1 (return_both h.2)
+  keyword_both left keyword.If begun h = started_as left h.1 (if_on h.2, if_made h.2)
+  keyword_both left keyword.While begun h = started_as left h.1 (while_on h.2, while_made h.2)
+  keyword_both left keyword.Do begun h = started_as left h.0 (do_both h.1)
+  keyword_both left keyword.For begun (inl (first, test, step, q, h)) = started_as left q (for_on h, for_made h)
+  keyword_both left keyword.For begun (inr (q, h)) = started_as left q (variables_on h, variables_made h)
+  keyword_both left keyword.Switch begun h = started_as left h.1 (switch_on h.2, switch_made h.2)
+  keyword_both left keyword.Case begun h = started_as left h.1 (case_on h.2, case_made h.2)
+  keyword_both left keyword.Default begun h = started_as left h.0 (default_both h.1)
+  keyword_both left keyword.Goto begun h = started_as left h.1 (goto_both h.2 h.3)
+  keyword_both left keyword.Break begun h = started_as left h.0 (break_both h.1)
+  keyword_both left keyword.Continue begun h = started_as left h.0 (continue_both h.1)
+  keyword_both left keyword.Return begun h = started_as left h.1 (return_both h.2)
 
   pub statement_both : {signs left rest : List Sign} {s : Stmt} {begun : Start} → StatementStarts types signs begun left → StatementStands types signs s rest ↔ Continues types begun left s rest
   statement_both (block left) = (block_on, block_made)
   statement_both (empty left) = empty_both
   statement_both (expression x signs left h) = expression_both h
   statement_both (label name left is) = (label_on is, label_made is)
-  statement_both (by_keyword w ts begun left h) = keyword_both w begun h
+  statement_both (by_keyword w ts begun left h) = keyword_both left w begun h

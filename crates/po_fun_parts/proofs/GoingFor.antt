@@ -46,17 +46,17 @@ first_same_as {signs = signs} us h (value m y w) low q =
     record { first_same = ap first_of (sym c.0); types_same = refl; left_same = c.1 }
 first_same_as us h (variables d inner v) low q = absurd (optional_apart us h v q)
 
-module _ {types : List (List ℕ)} where
-  steps_there : {inside : List (List ℕ)} {test step : Option Exp} (s : Stmt) (us : List Sign) → IsOptional inside test → IsOptional inside step → or_none height test ≤ 256 → or_none height step ≤ 256 →
-      StepsStand inside (steps_behind test step s us) test step (flat_stmt s ++ us)
-  steps_there {inside = inside} {test = test} {step = step} s us v w low high =
-      let behind : List Sign = optional flat step ++ (closing ∷ (flat_stmt s ++ us)) in
-      record {
-        between = behind;
-        tested = optional_stands semicolon (optional flat test ++ (semicolon ∷ behind)) behind v low refl;
-        stepped = optional_stands closing behind (flat_stmt s ++ us) w high refl;
-      }
+pub steps_there : {inside : List (List ℕ)} {test step : Option Exp} (s : Stmt) (us : List Sign) → IsOptional inside test → IsOptional inside step → or_none height test ≤ 256 → or_none height step ≤ 256 →
+    StepsStand inside (steps_behind test step s us) test step (flat_stmt s ++ us)
+steps_there {inside = inside} {test = test} {step = step} s us v w low high =
+    let behind : List Sign = optional flat step ++ (closing ∷ (flat_stmt s ++ us)) in
+    record {
+      between = behind;
+      tested = optional_stands semicolon (optional flat test ++ (semicolon ∷ behind)) behind v low refl;
+      stepped = optional_stands closing behind (flat_stmt s ++ us) w high refl;
+    }
 
+module _ {types : List (List ℕ)} where
   for_tokens : {ts rest : List Sign} {s : Stmt} → StatementStands types (word (codes "for") ∷ ts) s rest → (p : ForParts types s) →
       ts ≡ opening ∷ (flat_first p.first ++ steps_behind p.test p.step p.body rest)
   for_tokens {rest = rest} w p = tails (w.printed ∙ ap (λ z. flat_stmt z ++ rest) p.parts ∙ for_before p.first p.test p.step p.body rest)

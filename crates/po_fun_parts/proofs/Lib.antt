@@ -6,3 +6,4 @@ pub mod Going
 pub mod GoingFor
 pub mod Made
 pub mod Both
+pub mod Begun

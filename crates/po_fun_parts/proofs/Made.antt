@@ -20,7 +20,7 @@ use Rattle.po_fun_parts.specs.Standing.{StatementStands, BodyThen, BranchStands,
 use Rattle.po_fun_parts.proofs.Ending.{optional_parts}
 
 module _ {types : List (List ℕ)} where
-  stands_as : {signs rest : List Sign} {s t : Stmt} → s ≡ t → StatementStands types signs t rest → StatementStands types signs s rest
+  pub stands_as : {signs rest : List Sign} {s t : Stmt} → s ≡ t → StatementStands types signs t rest → StatementStands types signs s rest
   stands_as {signs = signs} {rest = rest} q w = subst (λ z. StatementStands types signs z rest) (sym q) w
 
   -- an expression in parentheses with what stands behind it
@@ -114,9 +114,9 @@ module _ {types : List (List ℕ)} where
   first_printed (alone us q) r = q ∙ ap (λ z. semicolon ∷ z) r
   first_printed {vs = vs} (behind_value x us w) r = w.printed ∙ (ap (λ z. flat x ++ (semicolon ∷ z)) r ∙ sym (append_assoc (flat x) (semicolon ∷ []) vs))
 
-steps_printed : {types : List (List ℕ)} {signs left rest : List Sign} {test step : Option Exp} (body : Stmt) → StepsStand types signs test step left → left ≡ flat_stmt body ++ rest →
+steps_printed : {types : List (List ℕ)} {signs left : List Sign} {test step : Option Exp} (body : Stmt) (rest : List Sign) → StepsStand types signs test step left → left ≡ flat_stmt body ++ rest →
     signs ≡ steps_behind test step body rest
-steps_printed {test = test} {step = step} body h q =
+steps_printed {test = test} {step = step} body rest h q =
     let t = optional_parts h.tested in
     let u = optional_parts h.stepped in
     t.2 ∙ ap (λ z. optional flat test ++ (semicolon ∷ z)) (u.2 ∙ ap (λ z. optional flat step ++ (closing ∷ z)) q)
@@ -131,7 +131,7 @@ module _ {types : List (List ℕ)} where
         formed = rule.for_each types types (first_of first) test step b.body (is_first h.begins) t.0 u.0 b.stands.formed;
         nested = omega (arith, first_low h.begins, t.1, u.1, b.stands.nested, stmt_height-For (first_of first) test step b.body);
         printed =
-            ap (λ z. word (codes "for") ∷ z) (h.opens ∙ ap (λ z. opening ∷ z) (first_printed h.begins (steps_printed b.body h.steps b.stands.printed))) ∙
+            ap (λ z. word (codes "for") ∷ z) (h.opens ∙ ap (λ z. opening ∷ z) (first_printed h.begins (steps_printed b.body rest h.steps b.stands.printed))) ∙
             sym (for_before (first_of first) test step b.body rest);
       })
 
@@ -145,6 +145,6 @@ module _ {types : List (List ℕ)} where
         nested = omega (arith, b.low, t.1, u.1, b.stands.nested, stmt_height-For first b.test b.step b.body);
         printed =
             ap (λ z. word (codes "for") ∷ z)
-            (h.opens ∙ ap (λ z. opening ∷ z) (b.printed ∙ ap (λ z. flat_decl b.declaration ++ z) (steps_printed b.body b.steps b.stands.printed))) ∙
+            (h.opens ∙ ap (λ z. opening ∷ z) (b.printed ∙ ap (λ z. flat_decl b.declaration ++ z) (steps_printed b.body rest b.steps b.stands.printed))) ∙
             sym (for_before first b.test b.step b.body rest);
       })

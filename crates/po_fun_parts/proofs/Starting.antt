@@ -105,8 +105,8 @@ value_kind {us = us} w = ap kind_first w.printed ∙ expression_kind (formed_rea
 no_word : {text : List ℕ} {sign : Sign} {ts us : List Sign} → sign.kind ≡ k.Punct → sign ∷ ts ≡ word text ∷ us → ⊥
 no_word {text = text} {sign = sign} h q = let heads : sign ≡ word text = cc in let kinds : k.Punct ≡ k.Word = sym h ∙ ap (λ v. v.kind) heads in cc
 
-behind_along : {types : List (List ℕ)} {ts us left : List Sign} {begun : Start} {w v : Keyword} → w ≡ v → ts ≡ us → StartsBehind w types ts begun left → StartsBehind v types us begun left
-behind_along {types = types} {us = us} {left = left} {begun = begun} {w = w} q r h =
+behind_along : (types : List (List ℕ)) (begun : Start) (left : List Sign) {ts us : List Sign} {w v : Keyword} → w ≡ v → ts ≡ us → StartsBehind w types ts begun left → StartsBehind v types us begun left
+behind_along types begun left {us = us} {w = w} q r h =
     subst (λ z. StartsBehind z types us begun left) q (subst (λ z. StartsBehind w types z begun left) r h)
 
 -- behind a keyword stands what begins with it
@@ -116,7 +116,7 @@ keyword_behind w q (block left) = absurd (no_word refl q)
 keyword_behind w q (empty left) = absurd (no_word refl q)
 keyword_behind w q (expression x signs left at) = absurd (other_kind w q (ap has_keyword (value_kind at)))
 keyword_behind w q (label name left is) = absurd (other_kind w q (ap has_keyword (label_kind left is)))
-keyword_behind w q (by_keyword v us begun left h) = let c = same_word q in behind_along (same_spelling v w c.0) c.1 h
+keyword_behind {types = types} w q (by_keyword v us begun left h) = let c = same_word q in behind_along types begun left (same_spelling v w c.0) c.1 h
 
 -- any other word begins a label or an expression
 pub no_word_start : {types : List (List ℕ)} {signs ts : List Sign} {text : List ℕ} → signs ≡ word text ∷ ts → ((w : Keyword) → text ≡ spelling w → ⊥) → (IsName text × Begins colon ts → ⊥) →
