@@ -45,22 +45,34 @@ module _ {types : List (List ℕ)} where
       stmt_height (st.For first test step s) ≤ 256 → Begun types (word (codes "for") ∷ (opening ∷ (flat_first first ++ steps_behind test step s rest)))
   for_begun {first = first} {test = test} {step = step} s rest nothing t u low =
       let high = stmt_height-For first test step s in
-      begun_by (start.For None test step) (flat_stmt s ++ rest) keyword.For (inl (None, test, step, refl, record {
-        inside = _;
-        behind = steps_behind test step s rest;
-        opens = refl;
-        begins = alone _ refl;
-        steps = steps_there s rest t u (omega (arith, low, high)) (omega (arith, low, high));
-      }))
+      begun_by (start.For None test step) (flat_stmt s ++ rest) keyword.For (inl (
+        None,
+        test,
+        step,
+        refl,
+        record {
+          inside = _;
+          behind = steps_behind test step s rest;
+          opens = refl;
+          begins = alone _ refl;
+          steps = steps_there s rest t u (omega (arith, low, high)) (omega (arith, low, high));
+        },
+      ))
   for_begun {first = first} {test = test} {step = step} s rest (value m x w) t u low =
       let high = stmt_height-For first test step s in
-      begun_by (start.For (Some x) test step) (flat_stmt s ++ rest) keyword.For (inl (Some x, test, step, refl, record {
-        inside = _;
-        behind = steps_behind test step s rest;
-        opens = refl;
-        begins = behind_value x _ (record { formed = record { level_of = m; formed = w; nested = omega (arith, low, high) }; printed = append_assoc (flat x) (semicolon ∷ []) _ });
-        steps = steps_there s rest t u (omega (arith, low, high)) (omega (arith, low, high));
-      }))
+      begun_by (start.For (Some x) test step) (flat_stmt s ++ rest) keyword.For (inl (
+        Some x,
+        test,
+        step,
+        refl,
+        record {
+          inside = _;
+          behind = steps_behind test step s rest;
+          opens = refl;
+          begins = behind_value x _ (record { formed = record { level_of = m; formed = w; nested = omega (arith, low, high) }; printed = append_assoc (flat x) (semicolon ∷ []) _ });
+          steps = steps_there s rest t u (omega (arith, low, high)) (omega (arith, low, high));
+        },
+      ))
   for_begun s rest (variables d inside v) t u low =
       begun_by start.ForVariables _ keyword.For (inr (refl, record { opens = refl; others = λ x us h. optional_apart _ h v refl }))
 

@@ -41,7 +41,7 @@ abbrev GotoStands : List Sign → Start → List Sign → Type 0
 GotoStands signs begun left = (name : List ℕ) × (begun ≡ start.Whole (st.Goto name)) × IsName name × (signs ≡ word name ∷ (semicolon ∷ left))
 
 pub goto_word : {signs left : List Sign} {begun : Start} → GotoStands signs begun left → (name : List ℕ) × BeginsName name signs
-goto_word (name, q, is, w) = (name, is, subst (Begins (word name)) (sym w) refl)
+goto_word (name, q, is, w) = (name, (is, subst (Begins (word name)) (sym w) refl))
 
 pub goto_semicolon : {signs ts left : List Sign} {begun : Start} {text : List ℕ} → signs ≡ word text ∷ ts → GotoStands signs begun left → Begins semicolon ts
 goto_semicolon q (name, r, is, w) = subst (Begins semicolon) (sym (same_word (sym q ∙ w)).1) refl

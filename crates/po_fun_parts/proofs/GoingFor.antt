@@ -68,7 +68,7 @@ module _ {types : List (List ℕ)} where
       let high = stmt_height-For p.first p.test p.step p.body in
       let a = first_same_as (steps_behind p.test p.step p.body rest) h.begins p.begins (omega (arith, w.nested, ap stmt_height p.parts, high)) (tails (sym h.opens ∙ for_tokens w p)) in
       let there = steps_there p.body rest (subst (λ z. IsOptional z p.test) a.types_same p.tested) (subst (λ z. IsOptional z p.step) a.types_same p.stepped)
-        (omega (arith, w.nested, ap stmt_height p.parts, high)) (omega (arith, w.nested, ap stmt_height p.parts, high)) in
+      (omega (arith, w.nested, ap stmt_height p.parts, high)) (omega (arith, w.nested, ap stmt_height p.parts, high)) in
       let c = one_steps h.steps (subst (λ z. StepsStand types z p.test p.step (flat_stmt p.body ++ rest)) (sym a.left_same) there) in
       record {
         body = p.body;

@@ -7,3 +7,4 @@ pub mod GoingFor
 pub mod Made
 pub mod Both
 pub mod Begun
+pub mod OneStart

@@ -77,7 +77,7 @@ same_spelling w v q =
     sym (kind_back w) ∙ ap keyword_of_kind (sym (first_kind w []) ∙ ap (λ text. kind_first (word text ∷ [])) q ∙ first_kind v []) ∙ kind_back v
 
 -- neither an expression nor a label
-abbrev has_keyword : Kind → Bool
+abbrev pub has_keyword : Kind → Bool
 has_keyword by_label = false
 has_keyword otherwise = false
 has_keyword _ = true
@@ -95,14 +95,14 @@ kept keyword.Break = refl
 kept keyword.Continue = refl
 kept keyword.Return = refl
 
-other_kind : {ts us : List Sign} (w : Keyword) → ts ≡ word (spelling w) ∷ us → has_keyword (kind_first ts) ≡ false → ⊥
+pub other_kind : {ts us : List Sign} (w : Keyword) → ts ≡ word (spelling w) ∷ us → has_keyword (kind_first ts) ≡ false → ⊥
 other_kind {us = us} w q h = true≢false (sym (kept w) ∙ ap has_keyword (sym (first_kind w us) ∙ ap kind_first (sym q)) ∙ h)
 
 -- an expression with a semicolon behind it
 pub value_kind : {types : List (List ℕ)} {signs us : List Sign} {x : Exp} → StandsBefore types signs x (semicolon ∷ us) → kind_first signs ≡ otherwise
 value_kind {us = us} w = ap kind_first w.printed ∙ expression_kind (formed_reads (semicolon ∷ us) w.formed.formed) (no_colon us)
 
-no_word : {text : List ℕ} {sign : Sign} {ts us : List Sign} → sign.kind ≡ k.Punct → sign ∷ ts ≡ word text ∷ us → ⊥
+pub no_word : {text : List ℕ} {sign : Sign} {ts us : List Sign} → sign.kind ≡ k.Punct → sign ∷ ts ≡ word text ∷ us → ⊥
 no_word {text = text} {sign = sign} h q = let heads : sign ≡ word text = cc in let kinds : k.Punct ≡ k.Word = sym h ∙ ap (λ v. v.kind) heads in cc
 
 behind_along : (types : List (List ℕ)) (begun : Start) (left : List Sign) {ts us : List Sign} {w v : Keyword} → w ≡ v → ts ≡ us → StartsBehind w types ts begun left → StartsBehind v types us begun left

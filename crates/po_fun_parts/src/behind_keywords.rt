@@ -152,13 +152,7 @@ fn goto_start(tokens: &Tokens, at: u32, to: u32) -> Result<Option<(Start, u32)>,
 }
 
 /// What begins with a keyword and this punctuator behind it.
-fn before_sign(
-    tokens: &Tokens,
-    at: u32,
-    to: u32,
-    text: &[u8],
-    begun: Start,
-) -> Option<(Start, u32)>
+fn before_sign(tokens: &Tokens, at: u32, to: u32, text: &[u8], begun: Start) -> Option<(Start, u32)>
     ensures found { IfSome result (λ p. (p.0 ≡ begun) × (signs_between tokens.now.list at to ≡ punct text.now ∷ signs_between tokens.now.list p.1 to)) }
     ensures within { IfSome result (λ p. (at ≤ p.1) × (p.1 ≤ to) × (p.1 ≤ length tokens.now.list)) }
     ensures none { IfNone result (Begins (punct text.now) (signs_between tokens.now.list at to) → ⊥) }

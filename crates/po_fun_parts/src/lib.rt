@@ -15,5 +15,5 @@ mod starts;
 pub use expressions::{Stop, expression_before, optional_before};
 pub use heads::{steps_at, test_at};
 pub use keywords::{Keyword, word_stands};
-pub use laws::{a_statement_goes_on_behind_its_start, each_statement_has_a_start};
+pub use laws::{a_statement_goes_on_behind_its_start, each_statement_has_a_start, one_start};
 pub use starts::{Start, start_at};

@@ -10,3 +10,6 @@ returns-then-is_label-clause-found c = λ types s.
 pub returns-in_default-clause-none : goal.returns-in_default-clause-none
 returns-in_default-clause-none c = λ types s begun left w.
     no_word_start c.requires.first c.requires.other (iff_false c.if-is_label.ensures.named refl) (rw c.in_default.is at (c.in_ok-begun.ensures.none types s)) begun left w
+
+pub returns-clause-found : goal.returns-clause-found
+returns-clause-found c = λ types s. rw c.in-Some.is at (c.in_ok-begun.ensures.found types s)

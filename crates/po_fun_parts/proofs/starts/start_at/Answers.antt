@@ -13,3 +13,6 @@ pub returns-in_default-2-clause-none : goal.returns-in_default-2-clause-none
 returns-in_default-2-clause-none c = λ types s begun left w.
     no_other_start (iff_false c.if-stands.ensures.first refl) (iff_false c.if-stands-2.ensures.first refl) c.in_default.ensures.first
     (rw c.in_default-2.is at (c.in_ok-begun.ensures.none types s)) begun left w
+
+pub returns-in_default-clause-found : goal.returns-in_default-clause-found
+returns-in_default-clause-found c = λ types s. rw c.in-Some-2.is at (c.in_ok-begun.ensures.found types s)
