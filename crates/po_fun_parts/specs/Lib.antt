@@ -1,0 +1,5 @@
+pub mod Stops
+pub mod Keywords
+pub mod Heads
+pub mod Starting
+pub mod Standing
