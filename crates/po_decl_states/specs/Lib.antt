@@ -1,0 +1,3 @@
+pub mod Scopes
+pub mod Going
+pub mod Values
