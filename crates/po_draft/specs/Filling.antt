@@ -1,5 +1,5 @@
 -- A label gets its node in one node after the other.
-use Rattle.std.specs.Prelude.{ℕ, ◌+◌, ◌≤◌, ◌<◌, ◌≡◌, ◌≢◌, List, length, Option, Some, None, slice_get}
+use Rattle.std.specs.Prelude.{ℕ, ◌≤◌, ◌<◌, ◌≡◌, ◌≢◌, List, length, Option, Some, None, slice_get}
 use Rattle.po_ir.specs.declared.instr.Instr.{Instr}
 use Rattle.po_ir.specs.declared.graph.Node.{Node}
 use Rattle.po_draft.specs.Sketches.{at_label, resolve, resolved}

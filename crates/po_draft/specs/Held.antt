@@ -1,5 +1,5 @@
 -- Registers, and the temporaries among them that are taken.
-use Rattle.std.specs.Prelude.{ℕ, ◌≡◌, List}
+use Rattle.std.specs.Prelude.{ℕ, List}
 use Rattle.po_ir.specs.declared.instr.Ty.{Ty}
 use Rattle.po_ir.specs.declared.graph.Reg.{Reg as Register}
 use Rattle.po_lowering.specs.Temporaries.{State, Takes}
@@ -8,6 +8,9 @@ pub record Held : Type 0 where
   pub regs : List Register
   pub taken : List ℕ
 
+abbrev pub with_held : Held → State → State
+with_held h s = record s { regs = h.regs; taken = h.taken }
+
 -- whatever else is passed on, a value takes this temporary
 abbrev pub TakesHeld : Ty → Held → ℕ → Held → Type 0
-TakesHeld ty old r new = (s : State) → s.regs ≡ old.regs → s.taken ≡ old.taken → Takes ty s r (record s { regs = new.regs; taken = new.taken })
+TakesHeld ty old r new = (s : State) → Takes ty (with_held old s) r (with_held new s)

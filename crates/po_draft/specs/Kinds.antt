@@ -1,5 +1,5 @@
 -- How the temporaries of a graph that is being made are kept by their types.
-use Rattle.std.specs.Prelude.{ℕ, ◌+◌, ◌≡◌, ◌≢◌, ◌<◌, ◌≤◌, List, [], ◌∷◌, ◌++◌, length, Some, slice_get, Contains}
+use Rattle.std.specs.Prelude.{ℕ, ◌+◌, ◌≡◌, ◌≢◌, ◌<◌, ◌≤◌, ◌⊎◌, List, [], ◌∷◌, ◌++◌, length, Some, slice_get, Contains}
 use Rattle.po_ir.specs.declared.instr.Ty.{Ty}
 use Rattle.po_ir.specs.declared.graph.Reg.{Reg as Register}
 use Rattle.po_lowering.specs.Temporaries.{temporary}
@@ -28,9 +28,9 @@ pub record AreKept (regs : List Register) (taken : List ℕ) (kinds : List Kind)
 abbrev pub IsMissing : List Kind → Ty → Type 0
 IsMissing kinds ty = (k : ℕ) (kind : Kind) → slice_get kinds k ≡ Some kind → kind.ty ≢ ty
 
--- none of the type's temporaries is free
+-- none of the type's temporaries is free: none are kept, or all those that are kept at a place are taken
 abbrev pub HasNone : List Kind → Ty → Type 0
-HasNone kinds ty = (k : ℕ) (kind : Kind) → slice_get kinds k ≡ Some kind → kind.ty ≡ ty → length kind.numbers ≤ kind.used
+HasNone kinds ty = IsMissing kinds ty ⊎ ((k : ℕ) × (at : IsKindAt kinds k ty) × (length at.0.numbers ≤ at.0.used))
 
 -- one of the type's temporaries is free
 abbrev pub HasFree : List Kind → ℕ → Ty → Type 0
@@ -56,6 +56,10 @@ KeepsNoted ty number kinds kinds' = (regs : List Register) (taken : List ℕ) �
 
 abbrev pub KeepsAdded : List Register → List Register → List Kind → List Kind → Type 0
 KeepsAdded regs regs' kinds kinds' = (taken : List ℕ) → AreKept regs taken kinds → AreKept regs' taken kinds'
+
+-- what was kept is kept
+abbrev pub KeepsTaken : List ℕ → List Kind → List ℕ → List Kind → Type 0
+KeepsTaken taken kinds taken' kinds' = (regs : List Register) → AreKept regs taken kinds → AreKept regs taken' kinds'
 
 -- none of the temporaries at a place is taken
 pub record IsFreedAt (k : ℕ) (kinds kinds' : List Kind) : Type 0 where

@@ -1,5 +1,5 @@
 -- A graph that is being made: what stands so far, and what is passed on.
-use Rattle.std.specs.Prelude.{ℕ, ◌+◌, ◌≤◌, ◌<◌, ◌≡◌, List, [], ◌∷◌, ◌++◌, length, Some, None, slice_get, nat_eq, cond}
+use Rattle.std.specs.Prelude.{ℕ, ◌≤◌, ◌<◌, ◌≡◌, List, [], ◌∷◌, ◌++◌, length, Some, None, slice_get, nat_eq, cond}
 use Rattle.po_base.specs.declared.spot.Spot.{Spot}
 use Rattle.po_ir.specs.declared.instr.Instr.{Instr}
 use Rattle.po_ir.specs.declared.instr.Instr.TheVariants as ins

@@ -1,6 +1,6 @@
-ghost use Rattle.std.specs.Prelude.{ℕ, ◌≡◌, ◌+◌, ◌<◌, ◌++◌, ◌∷◌, [], length, IfOk, OnOk};
+ghost use Rattle.std.specs.Prelude.{◌≡◌, ◌+◌, ◌<◌, ◌++◌, ◌∷◌, [], length, IfOk, OnOk};
 ghost use Rattle.po_lowering.specs.Temporaries.{Takes, fresh, type_in};
-ghost use Rattle.po_lowering.specs.Statements.{no_cases, one_more_declared, with_label, with_case, with_default};
+ghost use Rattle.po_lowering.specs.Statements.{one_more_declared, with_label, with_case, with_default};
 ghost use Rattle.po_draft.specs.Sketches.{begun, with_node, first_label, IsFilled};
 
 use crate::filling::fill;
@@ -32,6 +32,13 @@ impl Model for Draft {
     ghost Value = { Sketch };
 
     ghost view = { λ d. record { nodes = d.nodes.items; state = record { regs = d.registers.regs; taken = d.registers.taken; texts = d.texts; declared = d.declared; labels = d.labels; cases = d.cases; default_case = d.default_case } } };
+}
+
+/// The cases of a switch with their nodes, in their order, and its default's node.
+#[derive(Drop)]
+pub struct Cases {
+    pub cases: List<(i128, u32)>,
+    pub default_case: Option<u32>,
 }
 
 /// The nodes, registers and literals of a finished draft.
@@ -174,6 +181,30 @@ impl Draft {
         ensures { self.new ≡ record self.old { state = with_default place.0 self.old.state } }
     {
         self.default_case = Some(place.0);
+    }
+
+    /// The labels of the source that have been met, each with its node, in constant time.
+    pub fn labels(&self) -> &[(Text, u32)]
+        ensures { result.now ≡ self.now.state.labels }
+    {
+        self.labels.as_slice()
+    }
+
+    /// Goes on with other cases, as where a switch begins and where it ends, in constant time. Those so far are given back.
+    pub fn replace_cases(&mut self, other: Cases) -> Cases
+        ensures before { (result.cases ≡ self.old.state.cases) × (result.default_case ≡ self.old.state.default_case) }
+        ensures after { self.new ≡ record self.old { state = record self.old.state { cases = other.cases; default_case = other.default_case } } }
+    {
+        let Cases {
+            cases,
+            default_case,
+        } = other;
+        let before = self.default_case;
+        self.default_case = default_case;
+        Cases {
+            cases: std::mem::replace(&mut self.cases, cases),
+            default_case: before,
+        }
     }
 
     /// A label stands for a node, in each node from a place on. In time linear in the nodes from there on; it takes no memory.

@@ -6,5 +6,5 @@ mod filling;
 mod registers;
 mod vectors;
 
-pub use draft::{Draft, Parts};
+pub use draft::{Cases, Draft, Parts};
 pub use filling::FIRST_LABEL;

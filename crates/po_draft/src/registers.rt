@@ -1,12 +1,12 @@
 ghost use Rattle.std.specs.Prelude.{◌≡◌, ◌≢◌, ◌<◌, ◌↔◌, ◌++◌, ◌∷◌, [], length, slice_get, IsTrue, IfOk, OnOk, MatchOption};
 ghost use Rattle.std.specs.Option.{option_map};
 ghost use Rattle.po_lowering.specs.Temporaries.{temporary};
-ghost use Rattle.po_draft.specs.Kinds.{IsMissing, HasNone, IsKindAt, HasFree, HasFreeAt, IsUsed, KeepsAdded, KeepsNoted, IsFreedAt, AreUnused};
+ghost use Rattle.po_draft.specs.Kinds.{IsMissing, HasNone, IsKindAt, HasFree, HasFreeAt, IsUsed, KeepsTaken, AreKept, KeepsAdded, KeepsNoted, IsFreedAt, AreUnused};
 ghost use Rattle.po_draft.specs.Held.{TakesHeld};
 
 use crate::vectors::push;
 use po_base::{List, Memory, RegNo};
-use po_ir::{counted, Reg, Ty};
+use po_ir::{Reg, Ty, counted};
 use std::alloc::Global;
 use std::marker::Model;
 
@@ -86,7 +86,8 @@ fn note(alloc: Global, kinds: &mut Vec<Kind>, ty: Ty, number: u32) -> Result<(),
         numbers,
         used: 0,
     };
-    push(kinds, kind)
+    push(kinds, kind)?;
+    Ok(())
 }
 
 /// Whether a register is a temporary: one without a name that is no parameter.
@@ -96,18 +97,29 @@ fn is_temporary(reg: &Reg) -> bool
     reg.name.is_none() && !reg.param
 }
 
-/// Puts a register behind all others.
-fn add(
+/// Puts a temporary behind all registers.
+fn add_temporary(
     alloc: Global,
     regs: &mut List<Reg>,
     kinds: &mut Vec<Kind>,
     reg: Reg,
 ) -> Result<(), Memory>
+    requires { reg ≡ temporary reg.ty }
+    ensures regs { OnOk result (regs.new ≡ regs.old ++ reg ∷ []) }
+    ensures kept { OnOk result (KeepsAdded regs.old regs.new kinds.old.items kinds.new.items) }
+{
+    note(alloc, kinds, reg.ty, counted(regs.len())?)?;
+    regs.push(reg)?;
+    Ok(())
+}
+
+/// Puts a register behind all others.
+fn add(alloc: Global, regs: &mut List<Reg>, kinds: &mut Vec<Kind>, reg: Reg) -> Result<(), Memory>
     ensures regs { OnOk result (regs.new ≡ regs.old ++ reg ∷ []) }
     ensures kept { OnOk result (KeepsAdded regs.old regs.new kinds.old.items kinds.new.items) }
 {
     if is_temporary(&reg) {
-        note(alloc, kinds, reg.ty, counted(regs.len())?)?;
+        return add_temporary(alloc, regs, kinds, reg);
     }
     regs.push(reg)?;
     Ok(())
@@ -116,12 +128,48 @@ fn add(
 /// Takes the least temporary that is free among those that are kept at a place.
 fn use_at(taken: &mut Vec<u32>, kinds: &mut Vec<Kind>, k: usize) -> Result<RegNo, Memory>
     requires { HasFreeAt kinds.old.items k }
-    ensures { IfOk result (λ r. IsUsed k r.0 taken.old.items kinds.old.items taken.new.items kinds.new.items) }
+    ensures used { IfOk result (λ r. IsUsed k r.0 taken.old.items kinds.old.items taken.new.items kinds.new.items) }
+    ensures kept { KeepsTaken taken.old.items kinds.old.items taken.new.items kinds.new.items }
 {
-    let number = kinds[k].numbers.as_slice()[kinds[k].used];
+    let used = kinds[k].used;
+    let number = kinds[k].numbers.as_slice()[used];
     push(taken, number)?;
-    kinds[k].used += 1;
+    kinds[k].used = used + 1;
     Ok(RegNo(number))
+}
+
+/// Makes a temporary and takes it.
+fn take_new(
+    alloc: Global,
+    regs: &mut List<Reg>,
+    taken: &mut Vec<u32>,
+    kinds: &mut Vec<Kind>,
+    ty: Ty,
+) -> Result<RegNo, Memory>
+    requires none { HasNone kinds.old.items ty }
+    requires kept { AreKept regs.old taken.old.items kinds.old.items }
+    ensures takes { IfOk result (λ r. TakesHeld ty (record { regs = regs.old; taken = taken.old.items }) r.0 (record { regs = regs.new; taken = taken.new.items })) }
+    ensures kept { OnOk result (AreKept regs.new taken.new.items kinds.new.items) }
+{
+    let temporary = Reg {
+        name: None,
+        ty,
+        param: false,
+    };
+    add_temporary(alloc, regs, kinds, temporary)?;
+    match find_free(kinds.as_slice(), ty) {
+        Some(k) => Ok(use_at(taken, kinds, k)?),
+        None => unreachable!(),
+    }
+}
+
+/// Lets go of all registers.
+fn give_up(alloc: Global, regs: &mut List<Reg>, taken: &mut Vec<u32>, kinds: &mut Vec<Kind>)
+    ensures { AreKept regs.new taken.new.items kinds.new.items }
+{
+    *regs = List::new(alloc);
+    taken.clear();
+    kinds.clear();
 }
 
 /// Frees what was taken of one type.
@@ -155,31 +203,33 @@ impl Registers {
         }
     }
 
-    /// Puts a register behind all others, in constant time. After `Memory` the registers are to be given up.
+    /// Puts a register behind all others, in constant time. After `Memory` there are no registers.
     pub(crate) fn add(&mut self, alloc: Global, reg: Reg) -> Result<(), Memory>
         ensures { OnOk result (self.new ≡ record self.old { regs = self.old.regs ++ reg ∷ [] }) }
     {
-        add(alloc, &mut self.regs, &mut self.kinds, reg)?;
-        Ok(())
+        match add(alloc, &mut self.regs, &mut self.kinds, reg) {
+            Ok(()) => Ok(()),
+            Err(_) => {
+                give_up(alloc, &mut self.regs, &mut self.taken, &mut self.kinds);
+                Err(Memory)
+            }
+        }
     }
 
-    /// Takes the least temporary of the type that isn't taken, and a new one where there is none, in constant time. After `Memory` the registers
-    /// are to be given up.
+    /// Takes the least temporary of the type that isn't taken, and a new one where there is none, in constant time. After `Memory` where a new
+    /// one was wanted there are no registers.
     pub(crate) fn take(&mut self, alloc: Global, ty: Ty) -> Result<RegNo, Memory>
         ensures { IfOk result (λ r. TakesHeld ty self.old r.0 self.new) }
     {
         if let Some(k) = find_free(self.kinds.as_slice(), ty) {
-            return use_at(&mut self.taken, &mut self.kinds, k);
+            return Ok(use_at(&mut self.taken, &mut self.kinds, k)?);
         }
-        let temporary = Reg {
-            name: None,
-            ty,
-            param: false,
-        };
-        add(alloc, &mut self.regs, &mut self.kinds, temporary)?;
-        match find_free(self.kinds.as_slice(), ty) {
-            Some(k) => use_at(&mut self.taken, &mut self.kinds, k),
-            None => Err(Memory),
+        match take_new(alloc, &mut self.regs, &mut self.taken, &mut self.kinds, ty) {
+            Ok(r) => Ok(r),
+            Err(_) => {
+                give_up(alloc, &mut self.regs, &mut self.taken, &mut self.kinds);
+                Err(Memory)
+            }
         }
     }
 
