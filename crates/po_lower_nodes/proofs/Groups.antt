@@ -1,8 +1,8 @@
 -- What one call adds to a graph that is being made.
-use Rattle.std.proofs.Common.{◌≡◌, ℕ, suc, ◌+◌, ◌<◌, List, [], ◌∷◌, ◌++◌, Bool, true, false, length, append_assoc, append-nil, get_or, take, take_all, map, refl, sym, ap, ◌∙◌, subst, arith}
+use Rattle.std.proofs.Common.{◌≡◌, ℕ, suc, ◌+◌, ◌<◌, ◌≤◌, List, [], ◌∷◌, ◌++◌, Bool, true, false, length, append_assoc, append-nil, get_or, take, take_all, map, refl, sym, ap, ◌∙◌, subst, arith}
 use Rattle.std.specs.Prelude.{ℤ, pos, Option, Some, None}
 use Rattle.std.proofs.lemmas.List.{map_push}
-use Rattle.std.proofs.lemmas.Option.{slice_get_read}
+use Rattle.std.proofs.lemmas.Option.{slice_get-get_or}
 use Rattle.po_lists.proofs.Places.{take_push}
 use Rattle.po_base.specs.declared.spot.Spot.{Spot}
 use Rattle.po_base.specs.declared.numbers.NodeNo.{NodeNo}
@@ -96,20 +96,21 @@ adds_test d e t v spot n target at is small a =
 
 -- ---- a list, item by item
 
-item_more : {X : Type 0} (xs : List X) (i : ℕ) (x : X) → i < length xs → x ≡ get_or xs i x → take i xs ++ x ∷ [] ≡ take (i + 1) xs
-item_more xs i x h e = let next : suc i ≡ i + 1 = omega arith in sym (take_push xs i x (slice_get_read xs (length xs) i x refl h e)) ∙ ap (λ n. take n xs) next
+item_more : {X : Type 0} (xs : List X) (i : ℕ) (x : X) → i < length xs → take i xs ++ get_or xs i x ∷ [] ≡ take (i + 1) xs
+item_more xs i x h = let next : suc i ≡ i + 1 = omega arith in sym (take_push xs i (get_or xs i x) (slice_get-get_or xs i x h)) ∙ ap (λ n. take n xs) next
 
 abbrev pub leaves_of : Spot → List SlotNo → List Node
 leaves_of spot slots = leaves spot (map (λ (slot : SlotNo). slot.0) slots)
 
-pub leaves_more : (d e f : Sketch) (spot : Spot) (xs : List SlotNo) (i : ℕ) (x : SlotNo) → i < length xs → x ≡ get_or xs i x → AddsRow d e (λ g. leaves_of spot (take i xs)) → AddsNode e f (λ g. ins.Leave x) spot →
+pub leaves_more : (d e f : Sketch) (spot : Spot) (xs : List SlotNo) (i : ℕ) (x : SlotNo) → i < length xs → AddsRow d e (λ g. leaves_of spot (take i xs)) → AddsNode e f (λ g. ins.Leave (get_or xs i x)) spot →
     AddsRow d f (λ g. leaves_of spot (take (i + 1) xs))
-leaves_more d e f spot xs i x h is a b =
-    let more : leaves_of spot (take i xs) ++ leave_node spot x.0 ∷ [] ≡ leaves_of spot (take i xs ++ x ∷ []) =
-      sym (map_push (leave_node spot) (map (λ (slot : SlotNo). slot.0) (take i xs)) x.0) ∙ ap (leaves spot) (sym (map_push (λ (slot : SlotNo). slot.0) (take i xs) x)) in
-    subst (λ zs. AddsRow d f (λ g. leaves_of spot zs)) (item_more xs i x h is) (adds_along d f _ _ (λ g. more) (adds_then d e f _ _ a (adds_one e f (λ g. ins.Leave x) spot b)))
+leaves_more d e f spot xs i x h a b =
+    let y : SlotNo = get_or xs i x in
+    let more : leaves_of spot (take i xs) ++ leave_node spot y.0 ∷ [] ≡ leaves_of spot (take i xs ++ y ∷ []) =
+      sym (map_push (leave_node spot) (map (λ (slot : SlotNo). slot.0) (take i xs)) y.0) ∙ ap (leaves spot) (sym (map_push (λ (slot : SlotNo). slot.0) (take i xs) y)) in
+    subst (λ zs. AddsRow d f (λ g. leaves_of spot zs)) (item_more xs i x h) (adds_along d f _ _ (λ g. more) (adds_then d e f _ _ a (adds_one e f (λ g. ins.Leave y) spot b)))
 
-pub leaves_all : (d e : Sketch) (spot : Spot) (xs : List SlotNo) (i : ℕ) → (i < length xs → ⊥) → AddsRow d e (λ g. leaves_of spot (take i xs)) → AddsRow d e (λ g. leaves_of spot xs)
+pub leaves_all : (d e : Sketch) (spot : Spot) (xs : List SlotNo) (i : ℕ) → length xs ≤ i → AddsRow d e (λ g. leaves_of spot (take i xs)) → AddsRow d e (λ g. leaves_of spot xs)
 leaves_all d e spot xs i h a = subst (λ zs. AddsRow d e (λ g. leaves_of spot zs)) (take_all i xs h) a
 
 enters_push : (xs : List (Option Var × Spot)) (x : Option Var × Spot) → enter_nodes xs ++ enter_node x.0 x.1 ≡ enter_nodes (xs ++ x ∷ [])
@@ -119,19 +120,20 @@ enters_push (y ∷ ys) x = append_assoc (enter_node y.0 y.1) (enter_nodes ys) (e
 pub enters_more : (d e f : Sketch) (xs : List (Option Var × Spot)) (i : ℕ) (x : Option Var × Spot) → i < length xs → x ≡ get_or xs i x → AddsRow d e (λ g. enter_nodes (take i xs)) → AddsRow e f (λ g. enter_node x.0 x.1) →
     AddsRow d f (λ g. enter_nodes (take (i + 1) xs))
 enters_more d e f xs i x h is a b =
-    subst (λ zs. AddsRow d f (λ g. enter_nodes zs)) (item_more xs i x h is) (adds_along d f _ _ (λ g. enters_push (take i xs) x) (adds_then d e f _ _ a b))
+    subst (λ zs. AddsRow d f (λ g. enter_nodes zs)) (ap (λ y. take i xs ++ y ∷ []) is ∙ item_more xs i x h) (adds_along d f _ _ (λ g. enters_push (take i xs) x) (adds_then d e f _ _ a b))
 
-pub enters_all : (d e : Sketch) (xs : List (Option Var × Spot)) (i : ℕ) → (i < length xs → ⊥) → AddsRow d e (λ g. enter_nodes (take i xs)) → AddsRow d e (λ g. enter_nodes xs)
+pub enters_all : (d e : Sketch) (xs : List (Option Var × Spot)) (i : ℕ) → length xs ≤ i → AddsRow d e (λ g. enter_nodes (take i xs)) → AddsRow d e (λ g. enter_nodes xs)
 enters_all d e xs i h a = subst (λ zs. AddsRow d e (λ g. enter_nodes zs)) (take_all i xs h) a
 
 abbrev pub tests_of : ℕ → Ty → Opnd → Spot → (ℕ → ℕ) → List (ℤ × NodeNo) → List Node
 tests_of a t v spot g cases = case_tests a t v spot (map (λ (x : ℤ × NodeNo). (x.0, g x.1.0)) cases)
 
-pub tests_more : (d e f : Sketch) (t : Ty) (v : Opnd) (spot : Spot) (cases : List (ℤ × NodeNo)) (i : ℕ) (x : ℤ × NodeNo) → i < length cases → x ≡ get_or cases i x →
-    AddsRow d e (λ g. tests_of (length d.nodes) t v spot g (take i cases)) → AddsRow e f (λ g. case_tests (length e.nodes) t v spot ((x.0, g x.1.0) ∷ [])) →
+pub tests_more : (d e f : Sketch) (t : Ty) (v : Opnd) (spot : Spot) (cases : List (ℤ × NodeNo)) (i : ℕ) (x : ℤ × NodeNo) → i < length cases →
+    AddsRow d e (λ g. tests_of (length d.nodes) t v spot g (take i cases)) → AddsRow e f (λ g. case_tests (length e.nodes) t v spot (((get_or cases i x).0, g (get_or cases i x).1.0) ∷ [])) →
     AddsRow d f (λ g. tests_of (length d.nodes) t v spot g (take (i + 1) cases))
-tests_more d e f t v spot cases i x h is a b =
-    subst (λ zs. AddsRow d f (λ g. tests_of (length d.nodes) t v spot g zs)) (item_more cases i x h is)
+tests_more d e f t v spot cases i d0 h a b =
+    let x : ℤ × NodeNo = get_or cases i d0 in
+    subst (λ zs. AddsRow d f (λ g. tests_of (length d.nodes) t v spot g zs)) (item_more cases i d0 h)
       (makes_map d f _ _ (λ final g p m.
         let old = map (λ (x : ℤ × NodeNo). (x.0, g x.1.0)) (take i cases) in
         let size : length e.nodes ≡ length d.nodes + length old = row_length m.0.row ∙ ap (λ k. length d.nodes + k) (tests_length (length d.nodes) t v spot old) in
@@ -141,7 +143,7 @@ tests_more d e f t v spot cases i x h is a b =
           same = m.1.same ∙ m.0.same
         }) (makes_then d e f _ _ a b))
 
-pub tests_all : (d e : Sketch) (t : Ty) (v : Opnd) (spot : Spot) (cases : List (ℤ × NodeNo)) (i : ℕ) → (i < length cases → ⊥) → AddsRow d e (λ g. tests_of (length d.nodes) t v spot g (take i cases)) →
+pub tests_all : (d e : Sketch) (t : Ty) (v : Opnd) (spot : Spot) (cases : List (ℤ × NodeNo)) (i : ℕ) → length cases ≤ i → AddsRow d e (λ g. tests_of (length d.nodes) t v spot g (take i cases)) →
     AddsRow d e (λ g. tests_of (length d.nodes) t v spot g cases)
 tests_all d e t v spot cases i h a = subst (λ zs. AddsRow d e (λ g. tests_of (length d.nodes) t v spot g zs)) (take_all i cases h) a
 

@@ -73,8 +73,8 @@ fn leave(d: &mut Draft, spot: &Spot, slot: SlotNo) -> Result<(), Memory>
 pub fn leave_all(d: &mut Draft, spot: &Spot, slots: &[SlotNo]) -> Result<(), Memory>
     ensures { OnOk result (AddsRow d.old d.new (λ g. leaves spot.now (map (λ slot. slot.0) slots.now))) }
 {
-    for k in 0..slots.len() {
-        leave(d, spot, slots[k])?;
+    for slot in slots {
+        leave(d, spot, *slot)?;
     }
     Ok(())
 }

@@ -3,5 +3,5 @@ use Rattle.po_lower_nodes.specs.Groups.{AddsRow}
 use Rattle.po_lower_nodes.proofs.Groups.{leaves_of}
 use Rattle.po_lower_nodes.proofs.blocks.leave_all.Given as goal
 
-abbrev pub invariant-loop-k : goal.invariant-loop-k
-invariant-loop-k l = AddsRow l.initial.d l.d (λ g. leaves_of l.spot (take l.k l.slots))
+abbrev pub invariant-loop-slot : goal.invariant-loop-slot
+invariant-loop-slot l = AddsRow l.initial.d l.d (λ g. leaves_of l.spot (take l.slot-index l.slots))
