@@ -19,16 +19,14 @@ use Rattle.po_ir.specs.declared.instr.Local.TheVariants as local
 use Rattle.po_ir.specs.declared.instr.Instr.{Instr}
 use Rattle.po_ir.specs.declared.instr.Instr.TheVariants as ins
 use Rattle.po_ir.specs.declared.graph.Node.{Node}
-use Rattle.po_lowering.specs.Temporaries.{State, At, Row, Takes, node, to, reg, register, put, fresh, type_in, ends, Holds, Saves, kept, copied, saved, not_used}
-use Rattle.po_lowering.specs.Expressions.{one_or_zero}
+use Rattle.po_lowering.specs.Temporaries.{At, Row, Takes, node, to, reg, register, put, fresh, type_in, ends, Holds, Saves, kept, copied, saved, not_used}
 use Rattle.po_lowering.specs.declared.var.Var.{Var}
 use Rattle.po_lowering.specs.Blocks.{case_tests, enter_node, leaves, leave_node}
 use Rattle.po_lowering.specs.Functions.{last_instr}
 use Rattle.po_draft.specs.Sketches.{Sketch, with_node, first_label, resolve}
-use Rattle.po_draft.specs.Making.{Makes, IsPlacing}
-use Rattle.po_draft.proofs.Making.{length_push, makes_none, makes_push, makes_then, makes_map, makes_add, makes_same, one_node, longer}
-use Rattle.po_lower_nodes.specs.Groups.{Stands, StandInRow, Computes, Chooses, AddsNode, AddsRow, AddsValue, AddsChoice, AddsHolding, AddsSaving, enter_nodes}
-use Rattle.po_lower_nodes.specs.Parameters.{Keeps, KeepsParameter}
+use Rattle.po_draft.proofs.Making.{length_push, makes_none, makes_push, makes_then, makes_map, makes_same, one_node, longer}
+use Rattle.po_lower_nodes.specs.Groups.{AddsNode, AddsRow, AddsValue, AddsChoice, AddsHolding, AddsSaving, enter_nodes}
+use Rattle.po_lower_nodes.specs.Parameters.{KeepsParameter}
 use Rattle.po_lower_nodes.proofs.Rows.{row_append, row_length, row_one, tests_length, tests_append}
 
 -- ---- one node

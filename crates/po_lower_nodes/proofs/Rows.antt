@@ -1,6 +1,6 @@
 -- Nodes in a row.
-use Rattle.std.proofs.Common.{◌≡◌, ℕ, suc, ◌+◌, List, [], ◌∷◌, ◌++◌, length, length-append, append_assoc, append-nil, map, take, refl, sym, ap, ◌∙◌, subst, arith}
-use Rattle.std.specs.Prelude.{ℤ, Some, slice_get, flat_map}
+use Rattle.std.proofs.Common.{◌≡◌, ℕ, suc, ◌+◌, List, [], ◌∷◌, ◌++◌, length, refl, sym, ap, subst, arith}
+use Rattle.std.specs.Prelude.{ℤ, Some, slice_get}
 use Rattle.po_base.specs.declared.spot.Spot.{Spot}
 use Rattle.po_base.specs.declared.operand.Opnd.{Opnd}
 use Rattle.po_base.specs.declared.operand.Opnd.TheVariants as o
@@ -8,7 +8,7 @@ use Rattle.po_base.specs.declared.operators.Op.TheVariants as op
 use Rattle.po_ir.specs.declared.instr.Ty.{Ty}
 use Rattle.po_ir.specs.declared.instr.Instr.TheVariants as ins
 use Rattle.po_ir.specs.declared.graph.Node.{Node}
-use Rattle.po_lowering.specs.Temporaries.{At, Row, ends, follows, node, to}
+use Rattle.po_lowering.specs.Temporaries.{Row, ends, follows, node, to}
 use Rattle.po_lowering.specs.Blocks.{case_tests}
 
 pub row_append : {ns : List Node} {a b c : ℕ} {xs ys : List Node} → Row ns a xs b → Row ns b ys c → Row ns a (xs ++ ys) c

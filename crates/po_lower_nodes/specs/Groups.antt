@@ -1,5 +1,5 @@
 -- Groups of nodes that stand at a place of a finished list of nodes.
-use Rattle.std.specs.Prelude.{ℕ, ◌+◌, ◌≡◌, List, length, map, flat_map, Option, Bool}
+use Rattle.std.specs.Prelude.{ℕ, ◌+◌, ◌≡◌, List, length, flat_map, Option, Bool}
 use Rattle.po_base.specs.declared.numbers.RegNo.{RegNo}
 use Rattle.po_base.specs.declared.operand.Opnd.{Opnd}
 use Rattle.po_base.specs.declared.operand.Opnd.TheVariants as o

@@ -1,9 +1,5 @@
 use Rattle.std.proofs.Common.{refl}
-use Rattle.std.specs.Prelude.{pos, Some}
-use Rattle.po_base.specs.declared.operators.Op.TheVariants as op
-use Rattle.po_base.specs.declared.operand.Opnd.TheVariants as o
 use Rattle.po_ir.specs.declared.instr.Ty.TheVariants as ty
-use Rattle.po_ir.specs.declared.instr.Callee.TheVariants.{Extern}
 use Rattle.po_ir.specs.declared.instr.Instr.TheVariants as ins
 use Rattle.po_lowering.specs.Temporaries.{reg}
 use Rattle.po_lower_nodes.proofs.Groups.{adds_value}
