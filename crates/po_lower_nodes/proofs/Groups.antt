@@ -42,7 +42,7 @@ adds_node d e instr spot q =
 pub adds_fixed : (d e : Sketch) (given instr : Instr) (spot : Spot) → given ≡ instr → e ≡ with_node given spot d → ((g : ℕ → ℕ) → resolve g instr ≡ instr) → AddsNode d e (λ g. instr) spot
 adds_fixed d e given instr spot is q fixed =
     makes_map d e _ _ (λ final g p h. record { here = subst (λ i. At final (length d.nodes) i spot) (fixed g) h.here; ends = h.ends; same = h.same })
-      (adds_node d e instr spot (q ∙ ap (λ i. with_node i spot d) is))
+    (adds_node d e instr spot (q ∙ ap (λ i. with_node i spot d) is))
 
 pub resolve-put : (g : ℕ → ℕ) (r : ℕ) (v : Opnd) → resolve g (put r v) ≡ put r v
 resolve-put g r (o.Num n) = refl
@@ -62,12 +62,12 @@ adds_value d e f held r instr spot takes same q fixed =
     let state : f.state ≡ e.state = ap (λ (s : Sketch). s.state) q in
     let size : length f.nodes ≡ length d.nodes + 1 = longer d e f (instr r) spot same nodes in
     makes_map d f _ _ (λ final g p h. record {
-        number = r;
-        takes = subst (λ t. Takes held d.state r t) (sym state) takes;
-        here = subst (λ i. At final (length d.nodes) i spot) (fixed g) h;
-        is_value = refl;
-        ends = size
-      }) (makes_push d f (instr r) spot (nodes ∙ ap (λ l. l ++ node (instr r) spot ∷ []) same))
+      number = r;
+      takes = subst (λ t. Takes held d.state r t) (sym state) takes;
+      here = subst (λ i. At final (length d.nodes) i spot) (fixed g) h;
+      is_value = refl;
+      ends = size;
+    }) (makes_push d f (instr r) spot (nodes ∙ ap (λ l. l ++ node (instr r) spot ∷ []) same))
 
 -- ---- rows
 
@@ -88,9 +88,9 @@ pub adds_test : (d e : Sketch) (t : Ty) (v : Opnd) (spot : Spot) (n : ℤ) (targ
     AddsNode d e (λ g. ins.If op.Eq t v (o.Num n) (to (g target.0)) (to (g (at + 1)))) spot → AddsRow d e (λ g. case_tests (length d.nodes) t v spot ((n, g target.0) ∷ []))
 adds_test d e t v spot n target at is small a =
     makes_map d e _ _ (λ final g p h.
-      let next : g (at + 1) ≡ length d.nodes + 1 = p (at + 1) (omega (arith, small)) ∙ ap (λ k. k + 1) is in
-      let one = subst (λ k. At final (length d.nodes) (ins.If op.Eq t v (o.Num n) (to (g target.0)) (to k)) spot) next h.here in
-      record { row = row_one final (length d.nodes) (length e.nodes) _ one.here h.ends; same = h.same }) a
+    let next : g (at + 1) ≡ length d.nodes + 1 = p (at + 1) (omega (arith, small)) ∙ ap (λ k. k + 1) is in
+    let one = subst (λ k. At final (length d.nodes) (ins.If op.Eq t v (o.Num n) (to (g target.0)) (to k)) spot) next h.here in
+    record { row = row_one final (length d.nodes) (length e.nodes) _ one.here h.ends; same = h.same }) a
 
 -- ---- a list, item by item
 
@@ -105,7 +105,7 @@ pub leaves_more : (d e f : Sketch) (spot : Spot) (xs : List SlotNo) (i : ℕ) (x
 leaves_more d e f spot xs i x h a b =
     let y : SlotNo = get_or xs i x in
     let more : leaves_of spot (take i xs) ++ leave_node spot y.0 ∷ [] ≡ leaves_of spot (take i xs ++ y ∷ []) =
-      sym (map_push (leave_node spot) (map (λ (slot : SlotNo). slot.0) (take i xs)) y.0) ∙ ap (leaves spot) (sym (map_push (λ (slot : SlotNo). slot.0) (take i xs) y)) in
+    sym (map_push (leave_node spot) (map (λ (slot : SlotNo). slot.0) (take i xs)) y.0) ∙ ap (leaves spot) (sym (map_push (λ (slot : SlotNo). slot.0) (take i xs) y)) in
     subst (λ zs. AddsRow d f (λ g. leaves_of spot zs)) (item_more xs i x h) (adds_along d f _ _ (λ g. more) (adds_then d e f _ _ a (adds_one e f (λ g. ins.Leave y) spot b)))
 
 pub leaves_all : (d e : Sketch) (spot : Spot) (xs : List SlotNo) (i : ℕ) → length xs ≤ i → AddsRow d e (λ g. leaves_of spot (take i xs)) → AddsRow d e (λ g. leaves_of spot xs)
@@ -132,14 +132,14 @@ pub tests_more : (d e f : Sketch) (t : Ty) (v : Opnd) (spot : Spot) (cases : Lis
 tests_more d e f t v spot cases i d0 h a b =
     let x : ℤ × NodeNo = get_or cases i d0 in
     subst (λ zs. AddsRow d f (λ g. tests_of (length d.nodes) t v spot g zs)) (item_more cases i d0 h)
-      (makes_map d f _ _ (λ final g p m.
-        let old = map (λ (x : ℤ × NodeNo). (x.0, g x.1.0)) (take i cases) in
-        let size : length e.nodes ≡ length d.nodes + length old = row_length m.0.row ∙ ap (λ k. length d.nodes + k) (tests_length (length d.nodes) t v spot old) in
-        let row = row_append m.0.row m.1.row in
-        record {
-          row = subst (λ z. Row final (length d.nodes) z (length f.nodes)) (tests_append (length d.nodes) (length e.nodes) t v spot old ((x.0, g x.1.0) ∷ []) size ∙ ap (case_tests (length d.nodes) t v spot) (sym (map_push (λ (x : ℤ × NodeNo). (x.0, g x.1.0)) (take i cases) x))) row;
-          same = m.1.same ∙ m.0.same
-        }) (makes_then d e f _ _ a b))
+    (makes_map d f _ _ (λ final g p m.
+    let old = map (λ (x : ℤ × NodeNo). (x.0, g x.1.0)) (take i cases) in
+    let size : length e.nodes ≡ length d.nodes + length old = row_length m.0.row ∙ ap (λ k. length d.nodes + k) (tests_length (length d.nodes) t v spot old) in
+    let row = row_append m.0.row m.1.row in
+    record {
+      row = subst (λ z. Row final (length d.nodes) z (length f.nodes)) (tests_append (length d.nodes) (length e.nodes) t v spot old ((x.0, g x.1.0) ∷ []) size ∙ ap (case_tests (length d.nodes) t v spot) (sym (map_push (λ (x : ℤ × NodeNo). (x.0, g x.1.0)) (take i cases) x))) row;
+      same = m.1.same ∙ m.0.same;
+    }) (makes_then d e f _ _ a b))
 
 pub tests_all : (d e : Sketch) (t : Ty) (v : Opnd) (spot : Spot) (cases : List (ℤ × NodeNo)) (i : ℕ) → length cases ≤ i → AddsRow d e (λ g. tests_of (length d.nodes) t v spot g (take i cases)) →
     AddsRow d e (λ g. tests_of (length d.nodes) t v spot g cases)
@@ -160,7 +160,7 @@ enters_same d e spot x y q a = subst (λ z. AddsRow d e (λ g. enter_node z spot
 pub adds_copy : (d e f : Sketch) (spot : Spot) (q : RegNo) (t : Ty) (r : ℕ) → type_in d.state q ≡ Some t → Takes t d.state r e.state → e.nodes ≡ d.nodes → f ≡ with_node (ins.Copy (reg r) q) spot e → AddsHolding d f spot (o.Reg q) true (register r)
 adds_copy d e f spot q t r typed takes same p =
     one_node d e f (ins.Copy (reg r) q) spot (λ final b s. Holds final d.state (length d.nodes) spot (o.Reg q) true (register r) b s) same p (λ g. refl)
-      (λ final at. copied d.state e.state (length d.nodes) spot q r t typed takes at)
+    (λ final at. copied d.state e.state (length d.nodes) spot q r t typed takes at)
 
 pub adds_kept : (d : Sketch) (spot : Spot) (v : Opnd) (changed : Bool) → changed ≡ false → AddsHolding d d spot v changed v
 adds_kept d spot v changed q = subst (λ b. AddsHolding d d spot v b v) (sym q) (makes_none d _ (λ final g. kept d.state (length d.nodes) spot v))
@@ -168,7 +168,7 @@ adds_kept d spot v changed q = subst (λ b. AddsHolding d d spot v b v) (sym q) 
 pub adds_saved : (d e f : Sketch) (spot : Spot) (t : Ty) (q : RegNo) (r : ℕ) → Takes t d.state r e.state → e.nodes ≡ d.nodes → f ≡ with_node (ins.Copy (reg r) q) spot e → AddsSaving d f spot t true q (Some (register r))
 adds_saved d e f spot t q r takes same p =
     one_node d e f (ins.Copy (reg r) q) spot (λ final b s. Saves final d.state (length d.nodes) spot t true q (Some (register r)) b s) same p (λ g. refl)
-      (λ final at. saved d.state e.state (length d.nodes) spot t q r takes at)
+    (λ final at. saved d.state e.state (length d.nodes) spot t q r takes at)
 
 pub adds_unsaved : (d : Sketch) (spot : Spot) (t : Ty) (used : Bool) (q : RegNo) → used ≡ false → AddsSaving d d spot t used q None
 adds_unsaved d spot t used q is = subst (λ b. AddsSaving d d spot t b q None) (sym is) (makes_none d _ (λ final g. not_used d.state (length d.nodes) spot t q))
@@ -183,24 +183,24 @@ adds_choice d e a b c held r at spot is small takes same qa qb qc =
     let three = adds_node b c (put r (o.Num (pos 0))) spot qc in
     let start : length e.nodes ≡ length d.nodes = ap length same in
     makes_map d c _ _ (λ final g p h.
-      let first = h.0.0.1 in
-      let second = h.0.1 in
-      let last = h.1 in
-      let size1 : length a.nodes ≡ length d.nodes + 1 = first.ends ∙ ap (λ k. k + 1) start in
-      let size2 : length b.nodes ≡ length d.nodes + 2 = omega (arith, second.ends, size1) in
-      let size3 : length c.nodes ≡ length d.nodes + 3 = omega (arith, last.ends, size2) in
-      let goal_place : g (at + 3) ≡ length d.nodes + 3 = p (at + 3) (omega (arith, small)) ∙ ap (λ k. k + 3) is in
-      let r1 = row_one final (length d.nodes) (length d.nodes + 1) _ (subst (λ k. At final k (put r (o.Num (pos 1))) spot) start first.here).here refl in
-      let r2 = row_one final (length d.nodes + 1) (length d.nodes + 2) _ (subst (λ k. At final k (ins.Jump (to (length d.nodes + 3))) spot) size1 (subst (λ k. At final (length a.nodes) (ins.Jump (to k)) spot) goal_place second.here)).here (omega arith) in
-      let r3 = row_one final (length d.nodes + 2) (length c.nodes) _ (subst (λ k. At final k (put r (o.Num (pos 0))) spot) size2 last.here).here (omega (arith, size3)) in
-      record {
-        number = r;
-        takes = subst (λ t. Takes held d.state r t) (sym (last.same ∙ second.same ∙ first.same)) takes;
-        row = row_append r1 (row_append r2 r3);
-        is_value = refl;
-        ends = size3
-      })
-      (makes_then d b c _ _ (makes_then d a b _ _ (makes_then d e a _ _ (makes_same d e (λ final g. Unit {0}) same (λ final g. tt)) one) two) three)
+    let first = h.0.0.1 in
+    let second = h.0.1 in
+    let last = h.1 in
+    let size1 : length a.nodes ≡ length d.nodes + 1 = first.ends ∙ ap (λ k. k + 1) start in
+    let size2 : length b.nodes ≡ length d.nodes + 2 = omega (arith, second.ends, size1) in
+    let size3 : length c.nodes ≡ length d.nodes + 3 = omega (arith, last.ends, size2) in
+    let goal_place : g (at + 3) ≡ length d.nodes + 3 = p (at + 3) (omega (arith, small)) ∙ ap (λ k. k + 3) is in
+    let r1 = row_one final (length d.nodes) (length d.nodes + 1) _ (subst (λ k. At final k (put r (o.Num (pos 1))) spot) start first.here).here refl in
+    let r2 = row_one final (length d.nodes + 1) (length d.nodes + 2) _ (subst (λ k. At final k (ins.Jump (to (length d.nodes + 3))) spot) size1 (subst (λ k. At final (length a.nodes) (ins.Jump (to k)) spot) goal_place second.here)).here (omega arith) in
+    let r3 = row_one final (length d.nodes + 2) (length c.nodes) _ (subst (λ k. At final k (put r (o.Num (pos 0))) spot) size2 last.here).here (omega (arith, size3)) in
+    record {
+      number = r;
+      takes = subst (λ t. Takes held d.state r t) (sym (last.same ∙ second.same ∙ first.same)) takes;
+      row = row_append r1 (row_append r2 r3);
+      is_value = refl;
+      ends = size3;
+    })
+    (makes_then d b c _ _ (makes_then d a b _ _ (makes_then d e a _ _ (makes_same d e (λ final g. Unit {0}) same (λ final g. tt)) one) two) three)
 
 pub keeps_parameter : (d e f h k : Sketch) (slot : SlotNo) (r : ℕ) (access : Access) (spot : Spot) (v : Opnd) → e ≡ record d { state = fresh d.state } → AddsNode e f (λ g. ins.Enter (local.Slot slot)) spot →
     AddsValue f h ty.Ptr (λ q. ins.AddrSlot (reg q) slot) spot v → k ≡ with_node (ins.Store v (register r) access) spot h → KeepsParameter d k slot r access spot
@@ -210,17 +210,17 @@ keeps_parameter d e f h k slot r access spot v qe enter address qk =
     let start : length e.nodes ≡ length d.nodes = ap length nodes in
     let state : e.state ≡ fresh d.state = ap (λ (s : Sketch). s.state) qe in
     makes_map d k _ _ (λ final g p m.
-      let first = m.0.0.1 in
-      let second = m.0.1 in
-      let third = m.1 in
-      let size1 : length f.nodes ≡ length d.nodes + 1 = first.ends ∙ ap (λ n. n + 1) start in
-      let size2 : length h.nodes ≡ length d.nodes + 2 = omega (arith, second.ends, size1) in
-      record {
-        number = second.number;
-        takes = subst (λ t. Takes ty.Ptr (fresh d.state) second.number t) (sym third.same) (subst (λ s. Takes ty.Ptr s second.number h.state) (first.same ∙ state) second.takes);
-        enters = subst (λ n. At final n (ins.Enter (local.Slot slot)) spot) start first.here;
-        address = subst (λ n. At final n (ins.AddrSlot (reg second.number) slot) spot) size1 second.here;
-        stores = subst (λ z. At final (length d.nodes + 2) (ins.Store z (register r) access) spot) second.is_value (subst (λ n. At final n (ins.Store v (register r) access) spot) size2 third.here);
-        ends = omega (arith, third.ends, size2)
-      })
-      (makes_then d h k _ _ (makes_then d f h _ _ (makes_then d e f _ _ (makes_same d e (λ final g. Unit {0}) nodes (λ final g. tt)) enter) address) store)
+    let first = m.0.0.1 in
+    let second = m.0.1 in
+    let third = m.1 in
+    let size1 : length f.nodes ≡ length d.nodes + 1 = first.ends ∙ ap (λ n. n + 1) start in
+    let size2 : length h.nodes ≡ length d.nodes + 2 = omega (arith, second.ends, size1) in
+    record {
+      number = second.number;
+      takes = subst (λ t. Takes ty.Ptr (fresh d.state) second.number t) (sym third.same) (subst (λ s. Takes ty.Ptr s second.number h.state) (first.same ∙ state) second.takes);
+      enters = subst (λ n. At final n (ins.Enter (local.Slot slot)) spot) start first.here;
+      address = subst (λ n. At final n (ins.AddrSlot (reg second.number) slot) spot) size1 second.here;
+      stores = subst (λ z. At final (length d.nodes + 2) (ins.Store z (register r) access) spot) second.is_value (subst (λ n. At final n (ins.Store v (register r) access) spot) size2 third.here);
+      ends = omega (arith, third.ends, size2);
+    })
+    (makes_then d h k _ _ (makes_then d f h _ _ (makes_then d e f _ _ (makes_same d e (λ final g. Unit {0}) nodes (λ final g. tt)) enter) address) store)

@@ -5,7 +5,7 @@ ghost use Rattle.po_lowering.specs.Functions.{last_instr};
 ghost use Rattle.po_lower_nodes.specs.Groups.{AddsNode, AddsRow, enter_nodes};
 ghost use Rattle.po_lower_nodes.specs.Parameters.{KeepsParameter};
 
-use crate::jumps::{branch, Comparison};
+use crate::jumps::{Comparison, branch};
 use crate::values::slot_address;
 use po_base::{Memory, NodeNo, Op, Opnd, RegNo, SlotNo, Spot};
 use po_draft::Draft;

@@ -59,13 +59,7 @@ pub fn hold(
 }
 
 /// A Copy of a register in a temporary of a type.
-fn copy_saved(
-    alloc: Global,
-    d: &mut Draft,
-    spot: &Spot,
-    ty: Ty,
-    q: RegNo,
-) -> Result<Opnd, Memory>
+fn copy_saved(alloc: Global, d: &mut Draft, spot: &Spot, ty: Ty, q: RegNo) -> Result<Opnd, Memory>
     ensures { IfOk result (λ v. AddsSaving d.old d.new spot.now ty true q (Some v)) }
 {
     let r = d.take(alloc, ty)?;

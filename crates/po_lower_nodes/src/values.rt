@@ -14,12 +14,7 @@ use po_ir::{Callee, Instr, Ty};
 use std::alloc::Global;
 
 /// The address of a slot (C99 6.5.3.2). In constant time.
-pub fn slot_address(
-    alloc: Global,
-    d: &mut Draft,
-    spot: &Spot,
-    slot: SlotNo,
-) -> Result<Opnd, Memory>
+pub fn slot_address(alloc: Global, d: &mut Draft, spot: &Spot, slot: SlotNo) -> Result<Opnd, Memory>
     ensures { IfOk result (λ v. AddsValue d.old d.new ty_is.Ptr (λ r. ins.AddrSlot (reg r) slot) spot.now v) }
 {
     let r = d.take(alloc, Ty::Ptr)?;
@@ -42,12 +37,7 @@ pub fn global_address(
 }
 
 /// The address of a literal (C99 6.4.5). In constant time.
-pub fn text_address(
-    alloc: Global,
-    d: &mut Draft,
-    spot: &Spot,
-    text: StrNo,
-) -> Result<Opnd, Memory>
+pub fn text_address(alloc: Global, d: &mut Draft, spot: &Spot, text: StrNo) -> Result<Opnd, Memory>
     ensures { IfOk result (λ v. AddsValue d.old d.new ty_is.Ptr (λ r. ins.AddrStr (reg r) text) spot.now v) }
 {
     let r = d.take(alloc, Ty::Ptr)?;
@@ -140,12 +130,7 @@ pub fn void_call(
 
 /// Behind a condition: 1 where it is entered at its first node, 0 where it is entered at its third, in a temporary of a type (C99 6.5.13p3, 6.5.14p3).
 /// In constant time.
-pub fn one_or_zero(
-    alloc: Global,
-    d: &mut Draft,
-    spot: &Spot,
-    held: Ty,
-) -> Result<Opnd, Memory>
+pub fn one_or_zero(alloc: Global, d: &mut Draft, spot: &Spot, held: Ty) -> Result<Opnd, Memory>
     ensures { IfOk result (λ v. AddsChoice d.old d.new held spot.now v) }
 {
     let at = d.here()?;
