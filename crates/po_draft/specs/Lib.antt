@@ -1,0 +1,5 @@
+pub mod Held
+pub mod Kinds
+pub mod Sketches
+pub mod Filling
+pub mod Making

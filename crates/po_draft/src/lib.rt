@@ -1,0 +1,10 @@
+//! The graph of a function while it is lowered.
+#![tactic(auto)]
+
+mod draft;
+mod filling;
+mod registers;
+mod vectors;
+
+pub use draft::{Cases, Draft, Parts};
+pub use filling::FIRST_LABEL;
