@@ -1,0 +1,5 @@
+pub mod Held
+mod Powers
+mod Changing
+mod Combined
+mod Elements
