@@ -1,0 +1,7 @@
+//! The reader of a declaration, with struct bodies and parameter lists nested without a limit (C99 6.7): it takes the steps of `po_decl_states`
+//! to the end (`read`).
+#![tactic(auto)]
+
+mod read;
+
+pub use read::read_decl_at;
