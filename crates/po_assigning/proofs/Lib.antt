@@ -1,0 +1,3 @@
+mod Assigned
+mod Gathered
+mod Nameless
