@@ -1,3 +1,4 @@
+// Tests of the top call.
 use po_app::{Status, run};
 use po_base::{List, Text};
 use po_io::{MemFiles, MemSink};

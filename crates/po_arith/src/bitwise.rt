@@ -1,3 +1,4 @@
+// What the bitwise operators make of numbers (C99 6.5.10 to 6.5.12).
 ghost use Rattle.std.specs.Prelude.{◌≡◌, ◌≤ℤ◌, ◌<ℤ◌, ◌^◌, pos};
 ghost use Rattle.po_arith.specs.Bits as bits;
 ghost use Rattle.po_arith.specs.Bits.{IsAnd, IsOr, IsXor};

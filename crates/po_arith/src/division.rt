@@ -1,3 +1,4 @@
+// Quotients and remainders (C99 6.5.5).
 ghost use Rattle.std.specs.Prelude.{◌≡◌, ◌≢◌, pos};
 ghost use Rattle.std.specs.Int.RustNames.{int_div, int_rem};
 ghost use Rattle.po_arith.specs.Types.{IsSmall};

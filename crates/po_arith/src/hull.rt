@@ -1,3 +1,4 @@
+// The least interval that holds two.
 ghost use Rattle.std.specs.Prelude.{◌≡◌};
 ghost use Rattle.po_arith.specs.Hull as hull;
 ghost use Rattle.po_arith.specs.Hull.{IsHull, IsInhabited};

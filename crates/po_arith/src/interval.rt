@@ -1,3 +1,5 @@
+// Intervals of whole numbers, whose ends may be missing.
+
 /// The whole numbers from `lo` to `hi`, both among them; an end that is missing is no bound.
 #[derive(Clone, Copy, Debug, PartialEq, Eq)]
 pub struct Interval {

@@ -1,3 +1,4 @@
+// Laws of whole numbers: wrapping, division, rounding, bits, and ranges of results.
 ghost use Rattle.po_arith.specs.Types.{OneWrapped};
 ghost use Rattle.po_arith.specs.Division.{DivisionIsC99, OneDivision};
 ghost use Rattle.po_arith.specs.Shifts.{OneShiftedRight};

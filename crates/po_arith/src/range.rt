@@ -1,3 +1,5 @@
+// Ranges of whole numbers between two ends.
+
 /// The whole numbers from `lo` to `hi`, both among them.
 #[derive(Clone, Copy, Debug, PartialEq, Eq)]
 pub struct Range {

@@ -1,3 +1,4 @@
+// The ranges in which results of numbers of two ranges lie.
 ghost use Rattle.std.specs.Prelude.{◌≡◌, ◌^◌, ◌≤ℤ◌, ◌<ℤ◌, pos, ◌⊎◌, Some};
 ghost use Rattle.po_arith.specs.Ranges as ranges;
 ghost use Rattle.po_arith.specs.Ranges.{IsShort};

@@ -1,3 +1,4 @@
+// Shifts of numbers and of their ranges (C99 6.5.7).
 ghost use Rattle.std.specs.Prelude.{◌≡◌, ◌≤ℤ◌, ◌<ℤ◌, ◌^◌, pos};
 ghost use Rattle.po_arith.specs.Types.{IsSmall};
 ghost use Rattle.po_arith.specs.Ranges as ranges;

@@ -1,3 +1,5 @@
+// The targets that programs are compiled for.
+
 /// What a program is compiled for: the sizes, ranges and alignments of its types (C99 6.2.5, 6.2.6.2).
 #[derive(Clone, Copy, Debug, PartialEq, Eq)]
 pub enum Target {

@@ -1,3 +1,4 @@
+// The numbers of an integer type: limits, what fits, and wrapping (C99 6.2.6.2, 6.3.1.3).
 ghost use Rattle.std.specs.Prelude.{◌≡◌, ◌^◌, ◌≤◌, ◌↔◌, IsTrue, pos};
 ghost use Rattle.po_arith.specs.Types as types;
 ghost use Rattle.po_arith.specs.Types.{IsIntType, IsOfType, IsWrapped};

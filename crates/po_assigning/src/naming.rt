@@ -1,3 +1,4 @@
+// The name that an expression is (C99 6.5.1).
 ghost use Rattle.std.specs.Prelude.{ℕ, ◌≡◌, List, Bool};
 ghost use Rattle.std.specs.Option.{option_copied};
 ghost use Rattle.po_lowering.specs.Naming.{assigned, name_of as name_in};

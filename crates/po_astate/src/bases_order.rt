@@ -1,3 +1,4 @@
+// Whether one pointer's bases allow what another's do.
 ghost use Rattle.std.specs.Prelude.{◌≡◌};
 ghost use Rattle.po_astate.specs.Values as values;
 ghost use Rattle.po_astate.specs.Values.{entry_within};

@@ -1,3 +1,4 @@
+// Whether each entry of one map is below one of another.
 ghost use Rattle.std.specs.Prelude.{◌≡◌, ◌≤◌, ◌<◌, ◌+◌, drop, false, length, IfSome, IfNone};
 ghost use Rattle.po_bases.specs.Maps.{covered};
 

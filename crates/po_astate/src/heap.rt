@@ -1,3 +1,4 @@
+// The order of what is known of the heap.
 ghost use Rattle.std.specs.Prelude.{◌≡◌};
 ghost use Rattle.po_astate.specs.States as states;
 ghost use Rattle.po_astate.specs.States.{heap_entry_within};

@@ -1,3 +1,4 @@
+// Laws of states: their order, joins and rounding.
 ghost use Rattle.std.specs.Prelude.{◌≡◌, ◌↔◌, ℕ, Bool, true};
 ghost use Rattle.po_bases.specs.General.{IsJoin};
 ghost use Rattle.po_astate.specs.States as states;

@@ -1,3 +1,4 @@
+// The trait of the parts of a state, and lists of them.
 ghost use Rattle.std.specs.Prelude.{◌≡◌, length, IfOk};
 ghost use Rattle.std.specs.List.{All};
 ghost use Rattle.po_bases.specs.General.{each_join};

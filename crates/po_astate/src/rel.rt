@@ -1,3 +1,4 @@
+// The order and joins of relations to arguments.
 ghost use Rattle.std.specs.Prelude.{◌≡◌};
 ghost use Rattle.po_astate.specs.Values as values;
 

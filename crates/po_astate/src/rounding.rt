@@ -1,3 +1,4 @@
+// States rounded to thresholds.
 ghost use Rattle.std.specs.Prelude.{◌≡◌, map, IfOk};
 ghost use Rattle.po_astate.specs.Rounding as rounding;
 

@@ -1,3 +1,4 @@
+// Slots as parts of a state.
 ghost use Rattle.std.specs.Prelude.{◌≡◌};
 ghost use Rattle.po_bases.specs.General.{IfThere};
 ghost use Rattle.po_bases.specs.Filled.{IsFilled};

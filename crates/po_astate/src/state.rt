@@ -1,3 +1,4 @@
+// What is known of a function at a node.
 ghost use Rattle.std.specs.Prelude.{◌≡◌, IfOk};
 
 use crate::value::AValue;

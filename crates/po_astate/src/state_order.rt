@@ -1,3 +1,4 @@
+// The order and joins of states.
 ghost use Rattle.std.specs.Prelude.{◌≡◌, length, IfOk};
 ghost use Rattle.std.specs.List.{All};
 ghost use Rattle.po_bases.specs.General.{IfThere, each_join};

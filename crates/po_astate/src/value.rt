@@ -1,3 +1,4 @@
+// What is known of a register.
 ghost use Rattle.std.specs.Prelude.{◌≡◌, IfOk};
 
 use po_arith::Interval;

@@ -1,3 +1,4 @@
+// The order and joins of what is known of registers.
 ghost use Rattle.std.specs.Prelude.{◌≡◌, IfOk, OnOk};
 ghost use Rattle.po_astate.specs.Values as values;
 ghost use Rattle.po_astate.specs.Values.{IsValue};

@@ -1,3 +1,4 @@
+// A value on the heap, seen as the value.
 ghost use Rattle.std.specs.Prelude.{◌≡◌, IfOk};
 
 use crate::memory::Memory;

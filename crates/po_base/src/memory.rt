@@ -1,3 +1,4 @@
+// Want of memory.
 use std::alloc::AllocError;
 
 /// Want of memory: the one answer that no contract of cproof ties to a cause. A call that gives it leaves

@@ -1,3 +1,5 @@
+// The numbers by which parts of a project are called, each a type of its own.
+
 /// The place of a file among the files of a project, from 0.
 #[derive(Clone, Copy, Debug, PartialEq, Eq, PartialOrd, Ord, Hash)]
 pub struct FileNo(pub u32);

@@ -1,3 +1,4 @@
+// Operands of instructions.
 use crate::numbers::RegNo;
 
 /// An operand of an instruction: the value of a register, or a number.

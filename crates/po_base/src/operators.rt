@@ -1,3 +1,5 @@
+// The operators of instructions (C99 6.5).
+
 /// A binary operator of an instruction (C99 6.5.5 to 6.5.12).
 #[derive(Clone, Copy, Debug, PartialEq, Eq, Hash)]
 pub enum Op {

@@ -1,3 +1,4 @@
+// Lists with room, into which a push takes no memory.
 ghost use Rattle.std.specs.Prelude.{◌≡◌, [], ◌∷◌, ◌++◌, ◌<◌, ◌≤◌, ◌+◌, ◌-◌, length, MatchOption, IfOk, IsOk, OnOk, OnErr};
 
 use crate::list::List;

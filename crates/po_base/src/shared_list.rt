@@ -1,3 +1,4 @@
+// Lists that never change and that many can hold.
 ghost use Rattle.std.specs.Prelude.{◌≡◌, length, slice_get, ◌↔◌, IsTrue, IfOk, [], ◌<◌, OnSome};
 ghost use Rattle.std.specs.Option.{option_copied};
 ghost use Rattle.std.specs.Cmp.Lexicographic.{pointwise, slice_cmp, slice_partial_cmp, lists_equiv, lists_agrees, lists_total, lists_ties, lists_per, lists_po};

@@ -1,3 +1,4 @@
+// Positions in the source.
 use crate::text::Text;
 
 /// A position in the source: a file's name and a line, counted from 1.

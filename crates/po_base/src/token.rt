@@ -1,3 +1,4 @@
+// Tokens of a preprocessed file (C99 6.4).
 use crate::list::List;
 use crate::text::Text;
 

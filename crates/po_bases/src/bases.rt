@@ -1,3 +1,4 @@
+// Where a pointer points.
 ghost use Rattle.std.specs.Prelude.{◌≡◌, IfOk};
 
 use crate::entry::Entry;

@@ -1,3 +1,4 @@
+// The common bytes of two ascending lists.
 ghost use Rattle.std.specs.Prelude.{◌≡◌, ◌≤◌, ◌<◌, ◌+◌, ◌++◌, drop, false, length, IfOk, IfSome, IfNone};
 ghost use Rattle.po_bases.specs.Filled as bytes;
 

@@ -1,3 +1,4 @@
+// One base of a pointer, with its offsets.
 use crate::base::Base;
 use po_arith::Interval;
 

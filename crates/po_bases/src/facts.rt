@@ -1,3 +1,4 @@
+// The order and joins of what is known of blocks.
 ghost use Rattle.std.specs.Prelude.{◌≡◌, IfOk};
 ghost use Rattle.po_bases.specs.Filled as facts;
 ghost use Rattle.po_bases.specs.Filled.{heap_cmp, join_heap_entries};

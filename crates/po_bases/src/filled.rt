@@ -1,3 +1,4 @@
+// The bytes of a block that are surely filled.
 ghost use Rattle.std.specs.Prelude.{◌≡◌, IfOk};
 
 use po_base::{Memory, SharedList};

@@ -1,3 +1,4 @@
+// What is known of a block of the heap.
 ghost use Rattle.std.specs.Prelude.{◌≡◌, IfOk};
 
 use crate::filled::Filled;

@@ -1,3 +1,4 @@
+// Joins of bases.
 ghost use Rattle.std.specs.Prelude.{◌≡◌, ◌^◌, ◌≤◌, min, length, IfOk};
 ghost use Rattle.po_bases.specs.Bases as bases;
 ghost use Rattle.po_bases.specs.Bases.{entry_cmp, join_entries};

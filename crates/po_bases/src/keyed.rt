@@ -1,3 +1,4 @@
+// The trait of the entries of maps that are kept as ascending lists.
 ghost use Rattle.std.specs.Prelude.{◌≡◌, IfOk};
 
 use po_base::Memory;

@@ -1,3 +1,4 @@
+// Laws of bases, filled bytes and known blocks: their orders, joins and moves.
 ghost use Rattle.std.specs.Prelude.{◌≡◌, ℕ, ◌≤◌, ℤ, Option};
 ghost use Rattle.po_arith.specs.declared.interval.Interval.{Interval};
 ghost use Rattle.po_arith.specs.Hull.{IsIn};

@@ -1,3 +1,4 @@
+// Two maps merged, entries of one key joined.
 ghost use Rattle.std.specs.Prelude.{◌≡◌, ◌≤◌, ◌<◌, ◌+◌, ◌++◌, drop, length, IfOk, OnOk, OnErr};
 ghost use Rattle.po_bases.specs.Maps.{merged};
 

@@ -1,3 +1,4 @@
+// Bases of pointers that are moved.
 ghost use Rattle.std.specs.Prelude.{◌≡◌, IfOk};
 ghost use Rattle.po_bases.specs.Base as base;
 ghost use Rattle.po_bases.specs.Bases as bases;

@@ -1,3 +1,4 @@
+// Values of character constants (C99 6.4.4.4).
 ghost use Rattle.std.specs.Prelude.{◌≡◌};
 ghost use Rattle.po_typed.specs.Constants as constants;
 ghost use Rattle.po_typed.specs.Constants.{IsCharacterOf};

@@ -1,3 +1,4 @@
+// Constants converted to types (C99 6.3.1).
 ghost use Rattle.std.specs.Prelude.{◌≡◌, ◌≢◌, MatchBool, IfSome};
 ghost use Rattle.po_arith.specs.Types.{IsIntType, IsOfType};
 ghost use Rattle.po_types.specs.Integers.{bool_type};

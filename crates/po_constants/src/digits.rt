@@ -1,3 +1,4 @@
+// Rows of digits and their values.
 ghost use Rattle.std.specs.Prelude.{ℕ, ◌≡◌, ◌≤◌, ◌+◌, ◌*◌, length, drop};
 ghost use Rattle.po_tree.specs.Literals.{behind_digits};
 ghost use Rattle.po_typed.specs.Constants.{digits_value};

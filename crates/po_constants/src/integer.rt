@@ -1,3 +1,4 @@
+// The digits of integer constants (C99 6.4.4.1).
 ghost use Rattle.std.specs.Prelude.{◌≡◌, ◌≤◌, ◌+◌, ◌<◌, ◌∷◌, MatchOption, MatchBool, Some, None, length, drop};
 ghost use Rattle.po_tree.specs.Literals.{behind_zero, behind_integer, behind_digits};
 ghost use Rattle.po_typed.specs.Constants.{integer_value, is_decimal, digits_value};

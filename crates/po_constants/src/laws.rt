@@ -1,3 +1,4 @@
+// Laws of constants: one value, one result, one type.
 ghost use Rattle.po_constants.specs.Laws.{ConstantsHaveOneValue, OperatorsHaveOneResult, WordsHaveOneType};
 
 /// An integer constant has one type and one value at most, and a character constant and string literals side by side have one value at most.

@@ -1,3 +1,4 @@
+// Types and values of integer constants (C99 6.4.4.1).
 ghost use Rattle.std.specs.Prelude.{◌≡◌, ◌<◌, ◌≤◌, IfSome, pos};
 ghost use Rattle.po_arith.specs.Types.{IsIntType, IsOfType};
 ghost use Rattle.po_types.specs.Integers as integers;

@@ -1,3 +1,4 @@
+// What operators make of constants (C99 6.5).
 ghost use Rattle.std.specs.Prelude.{ℕ, ◌≡◌, ◌<◌, ◌≤◌, ◌^◌, ◌≢◌, true, false, pos, ◌*ℤ◌, MatchBool};
 ghost use Rattle.std.specs.Int.{int_rem_euclid};
 ghost use Rattle.po_arith.specs.Types.{IsIntType, IsOfType};

@@ -1,3 +1,4 @@
+// The characters of string literals (C99 6.4.5).
 ghost use Rattle.std.specs.Prelude.{ℕ, List as Bytes, MatchBool, ◌≡◌, ◌<◌, ◌≤◌, ◌∷◌, ◌++◌, MatchOption, IfOk, length};
 ghost use Rattle.po_tree.specs.Literals.{Characters};
 ghost use Rattle.po_typed.specs.Constants.{AreStrings};

@@ -1,3 +1,4 @@
+// Suffixes of integer constants (C99 6.4.4.1).
 ghost use Rattle.std.specs.Prelude.{ℕ, List, ◌≡◌, MatchOption, IfSome, Contains, map};
 ghost use Rattle.po_constants.specs.declared.suffix.TypeMarks.{TypeMarks as Marks};
 ghost use Rattle.po_tree.specs.Literals.{suffixes};

@@ -1,3 +1,4 @@
+// Rulebooks: what an analysis asks, and how it decides.
 ghost use Rattle.std.specs.Prelude.{◌≡◌, ◌<◌, IfOk};
 ghost use Rattle.po_core.specs.Book.{Book, IsBook};
 

@@ -1,3 +1,4 @@
+// What workers do to the ledger they share, one event after the other, and how far obligations have come.
 use crate::obl::{Obl, Verdict};
 use po_base::{FileNo, List};
 

@@ -1,3 +1,4 @@
+// Laws of lists of events and of least reports.
 ghost use Rattle.std.specs.Prelude.{◌≡◌, ◌≤◌, List};
 ghost use Rattle.po_core.specs.Core.{CoreState, IsQuiet, Replays};
 ghost use Rattle.po_core.specs.Theorem.{IsLeast, IsOrderly, IsWithin, most_obligations, settle_count};

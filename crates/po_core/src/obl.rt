@@ -1,3 +1,4 @@
+// Obligations, why they stand, and their verdicts.
 use po_base::{FunNo, NodeNo};
 
 /// Why an obligation stands at a node.

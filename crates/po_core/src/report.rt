@@ -1,3 +1,4 @@
+// What an analysis found.
 use crate::obl::{Obl, Verdict};
 use po_base::{FunNo, List};
 

@@ -1,3 +1,4 @@
+// Laws of declarations: tokens are those of one at most (C99 6.7).
 ghost use Rattle.std.specs.Prelude.{ℕ, ◌≡◌, ◌≤◌, ◌∷◌, ◌++◌, map, flat_map, Bool, Option as Maybe, List as Sequence};
 ghost use Rattle.po_tree.specs.declared.declaration.Decl.{Decl as Declaration};
 ghost use Rattle.po_tree.specs.declared.expression.Declarator.{Declarator};

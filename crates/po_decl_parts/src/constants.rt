@@ -1,3 +1,4 @@
+// Constants before an end (C99 6.6).
 ghost use Rattle.std.specs.Prelude.{ℕ, ◌≤◌, length, IfOk, IfSome, IfNone, List as Sequence};
 ghost use Rattle.po_tree.specs.NameSets.{AreSame};
 ghost use Rattle.po_exp_parts.specs.Places.{signs_between};

@@ -1,3 +1,4 @@
+// Laws of the parts of declarations: they are read exactly where they are printed.
 ghost use Rattle.std.specs.Prelude.{ℕ, ◌≡◌, ◌≤◌, ◌∷◌, ◌++◌, ◌↔◌, Bool, Option as Maybe, List as Sequence};
 ghost use Rattle.po_tree.specs.declared.expression.Exp.{Exp as Tree};
 ghost use Rattle.po_tree.specs.declared.expression.Specifier.{Specifier as Spec};

@@ -1,3 +1,4 @@
+// Specifiers, and the beginnings of structs' bodies (C99 6.7.1 to 6.7.4).
 ghost use Rattle.std.specs.Prelude.{ℕ, Bool, ◌≡◌, ◌≤◌, ◌<◌, ◌+◌, ◌∷◌, ◌↔◌, codes, length, IsTrue, IfOk, IfSome, IfNone, MatchOption, OnSome, List as Sequence};
 ghost use Rattle.po_tree.specs.declared.expression.Specifier.TheVariants as sp;
 ghost use Rattle.po_tree.specs.Words.{IsName};

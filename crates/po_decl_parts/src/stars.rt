@@ -1,3 +1,4 @@
+// Stars with their qualifiers (C99 6.7.5.1).
 ghost use Rattle.std.specs.Prelude.{◌≤◌, length, IfOk};
 ghost use Rattle.po_exp_parts.specs.Places.{signs_between};
 ghost use Rattle.po_exp_parts.specs.Stars.{StarsRead};

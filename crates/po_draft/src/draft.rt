@@ -1,3 +1,4 @@
+// A graph while it is made.
 ghost use Rattle.std.specs.Prelude.{◌≡◌, ◌+◌, ◌<◌, ◌++◌, ◌∷◌, [], length, IfOk, OnOk};
 ghost use Rattle.po_lowering.specs.Temporaries.{Takes, fresh, type_in};
 ghost use Rattle.po_lowering.specs.Statements.{one_more_declared, with_label, with_case, with_default};

@@ -1,3 +1,4 @@
+// Labels, and how nodes are put in their places.
 ghost use Rattle.std.specs.Prelude.{◌≡◌, ◌<◌, length};
 ghost use Rattle.po_draft.specs.Sketches.{at_label, IsFilled};
 ghost use Rattle.po_draft.specs.Filling.{Settles, IsFilledAt};

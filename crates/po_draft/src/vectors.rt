@@ -1,3 +1,4 @@
+// Items put at the end of a vector.
 ghost use Rattle.std.specs.Prelude.{◌≡◌, ◌++◌, ◌∷◌, [], OnOk, OnErr};
 
 use po_base::Memory;

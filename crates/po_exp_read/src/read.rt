@@ -1,3 +1,4 @@
+// The reader of expressions (C99 6.5): the cycle of its functions.
 ghost use Rattle.std.specs.Prelude.{ℕ, ◌≡◌, ◌≤◌, ◌<◌, ◌+◌, ◌^◌, ◌∷◌, [], ◌↔◌, IsTrue, length, IfOk, IfSome, IfNone};
 ghost use Rattle.std.specs.Prelude.{List as Sequence};
 ghost use Rattle.po_tree.specs.declared.expression.Exp.{Exp as Tree};

@@ -1,3 +1,4 @@
+// The trait of flows: what is known at the nodes of a graph.
 ghost use Rattle.std.specs.Prelude.{◌≡◌, ◌<◌, IfOk};
 ghost use Rattle.po_flow.specs.Flows.{Flows, HasEdge, IsLawful};
 

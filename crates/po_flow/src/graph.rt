@@ -1,3 +1,4 @@
+// The edges of a flow, asked for once.
 ghost use Rattle.std.specs.Prelude.{IfOk};
 ghost use Rattle.po_flow.specs.Graph.{IsGraph};
 

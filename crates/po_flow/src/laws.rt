@@ -1,3 +1,4 @@
+// Laws of least closed tables.
 ghost use Rattle.std.specs.Prelude.{◌≡◌, List};
 ghost use Rattle.po_flow.specs.Least.{IsLeast};
 

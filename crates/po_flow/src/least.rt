@@ -1,3 +1,4 @@
+// The least closed table of a flow.
 ghost use Rattle.std.specs.Prelude.{◌≡◌, IfOk, OnErr};
 ghost use Rattle.po_flow.specs.Least.{IsLeast};
 ghost use Rattle.po_flow.specs.Counting.{AreCounted, AreRises};

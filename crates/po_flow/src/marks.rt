@@ -1,3 +1,4 @@
+// Marked places, of which the first is found in logarithmic time.
 use po_base::Memory;
 use std::alloc::Global;
 

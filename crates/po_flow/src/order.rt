@@ -1,3 +1,4 @@
+// Nodes in reverse postorder, each loop together.
 ghost use Rattle.std.specs.Prelude.{◌≡◌, ◌<◌, ◌↔◌, ℕ, [], length, replicate, IfOk, OnOk, IsTrue};
 ghost use Rattle.po_flow.specs.Order.{IsOrder, IsPlaced, StandOnce};
 

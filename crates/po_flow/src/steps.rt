@@ -1,3 +1,4 @@
+// Counters of steps.
 ghost use Rattle.std.specs.Prelude.{◌≡◌};
 ghost use Rattle.po_flow.specs.Counting.{counted_on};
 

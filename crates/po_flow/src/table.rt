@@ -1,3 +1,4 @@
+// Tables of a state for each node.
 ghost use Rattle.std.specs.Prelude.{◌≡◌, [], ◌∷◌, ◌++◌, ◌<◌, length, Some, slice_get, slice_set, OnOk};
 
 use po_base::{List, Memory, NodeNo};

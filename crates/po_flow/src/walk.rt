@@ -1,3 +1,4 @@
+// The walk through a graph, depth first, by which its nodes are ordered.
 use po_base::{List, Memory, NodeNo};
 use std::alloc::Global;
 

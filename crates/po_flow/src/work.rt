@@ -1,3 +1,4 @@
+// A table on its way to the least closed one.
 ghost use Rattle.std.specs.Prelude.{◌≡◌, ◌<◌, ◌≤◌, ◌+◌, ◌⊎◌, ℕ, List, length, replicate, true, slice_index, slice_set, IfOk, OnOk};
 ghost use Rattle.std.specs.List.{Contains};
 ghost use Rattle.po_base.specs.declared.numbers.NodeNo.{NodeNo};

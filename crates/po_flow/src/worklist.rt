@@ -1,3 +1,4 @@
+// The nodes that wait to be evaluated.
 ghost use Rattle.std.specs.Prelude.{◌≡◌, ◌<◌, length, replicate, true, false, slice_index_or, slice_set, IfOk, MatchOption};
 ghost use Rattle.po_flow.specs.Order.{IsOrder};
 ghost use Rattle.po_flow.specs.Waiting.{AreIdleBefore, AreWithin, IsIdleAt, IsTaken, IsWaiting, NoneWaits};

@@ -1,3 +1,4 @@
+// Laws of statements and definitions: tokens are those of one at most (C99 6.8, 6.9.1).
 ghost use Rattle.std.specs.Prelude.{ℕ, ◌≡◌, ◌≤◌, ◌∷◌, ◌++◌, map, flat_map, List as Sequence};
 ghost use Rattle.po_tree.specs.declared.declaration.Decl.{Decl as Declaration};
 ghost use Rattle.po_tree.specs.declared.function.FunTree.{FunTree};

@@ -1,3 +1,4 @@
+// Laws of statements: each is its start, and what goes on behind it (C99 6.8).
 ghost use Rattle.std.specs.Prelude.{ℕ, ◌≡◌, ◌↔◌, List as Sequence};
 ghost use Rattle.po_tree.specs.declared.statement.Stmt.{Stmt as Statement};
 ghost use Rattle.po_tree.specs.Signs.{Sign};

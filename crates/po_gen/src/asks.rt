@@ -1,3 +1,4 @@
+// What each instruction asks.
 ghost use Rattle.std.specs.Prelude.{◌≡◌, All, IfOk};
 ghost use Rattle.po_ir.specs.declared.graph.Reg.{Reg as Register};
 ghost use Rattle.po_gen.specs.Asks as rules;

@@ -1,3 +1,4 @@
+// What conversions ask (C99 6.3.1.3).
 ghost use Rattle.std.specs.Prelude.{◌≡◌, All, IfOk};
 ghost use Rattle.po_arith.specs.Types.{IsIntType};
 ghost use Rattle.po_ir.specs.declared.graph.Reg.{Reg as Register};

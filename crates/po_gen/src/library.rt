@@ -1,3 +1,4 @@
+// The trait of what calls of library functions ask.
 ghost use Rattle.std.specs.Prelude.{◌≡◌, IfOk};
 ghost use Rattle.po_gen.specs.Asks.{Required};
 

@@ -1,3 +1,4 @@
+// What operators on numbers ask (C99 6.5).
 ghost use Rattle.std.specs.Prelude.{◌≡◌, ◌++◌, [], ◌∷◌, IfOk, OnOk};
 ghost use Rattle.po_pred.specs.declared.pred.Over.TheVariants as over;
 ghost use Rattle.po_gen.specs.Asks as rules;

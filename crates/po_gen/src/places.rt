@@ -1,3 +1,4 @@
+// Operands as places of predicates.
 ghost use Rattle.std.specs.Prelude.{◌≡◌};
 ghost use Rattle.po_gen.specs.Asks as rules;
 

@@ -1,3 +1,4 @@
+// What moves, comparisons and accesses by pointers ask (C99 6.5.3.2, 6.5.6, 6.5.8).
 ghost use Rattle.std.specs.Prelude.{◌≡◌, ◌++◌, IfOk, OnOk};
 ghost use Rattle.po_gen.specs.Asks as rules;
 

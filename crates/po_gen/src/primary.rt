@@ -1,3 +1,4 @@
+// The primary obligations of a node, in their order.
 ghost use Rattle.std.specs.Prelude.{◌≡◌, ◌++◌, All, IfOk, OnOk};
 ghost use Rattle.po_ir.specs.IntTypes.{IsTypeOfTarget, types_in, HasTypesOfTarget, AreTypesOfTarget};
 ghost use Rattle.po_gen.specs.Gen.{gen_instr, gen};

@@ -1,3 +1,4 @@
+// What is asked of the variables that an instruction reads.
 ghost use Rattle.std.specs.Prelude.{◌≡◌, ◌∷◌, [], IfOk, OnOk};
 ghost use Rattle.std.specs.Option.{option_copied};
 ghost use Rattle.po_ir.specs.Instructions.{operands};

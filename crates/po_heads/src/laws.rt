@@ -1,3 +1,4 @@
+// Laws of heads: which tokens of a tree its expressions and statements are known by, and where they stand.
 ghost use Rattle.std.specs.Prelude.{ℕ, ◌≡◌, ◌<◌, ◌↔◌, Contains, List as Items, flat_map, length, slice_get, Some};
 ghost use Rattle.po_tree.specs.declared.declaration.Decl.{Decl as Declaration};
 ghost use Rattle.po_tree.specs.declared.expression.Declarator.{Declarator};

@@ -1,3 +1,4 @@
+// What is asked of the bytes of a block.
 ghost use Rattle.std.specs.Prelude.{ℤ, ◌%◌, ◌≡◌, ◌↔◌, ◌≤ℤ◌, ◌<ℤ◌, ◌+ℤ◌, ◌*ℤ◌, pos, IsTrue, length};
 ghost use Rattle.po_memory.specs.Blocks.{HaveValues, IsAligned, IsFilled, IsMultiple, IsTerminated, OnPointer, Spans, StartsHeap};
 ghost use Rattle.po_memory.specs.Values.{EachPointer};

@@ -1,3 +1,4 @@
+// The values that the places of a predicate may have in a frame.
 ghost use Rattle.std.specs.Prelude.{◌≡◌, ◌↔◌, IsTrue, MatchResult, slice_get};
 ghost use Rattle.po_memory.specs.Values as values;
 ghost use Rattle.po_holds.specs.Choosing.{AreNumbers, ArePointers, AreSecond, SettlesNumber, SettlesPointer, SettlesSecond};

@@ -1,3 +1,4 @@
+// Sums of products of any size, by digits.
 ghost use Rattle.std.specs.Prelude.{ℕ, ℤ, ◌≡◌, ◌≤◌, ◌+◌, ◌↔◌, ◌<ℤ◌, ◌+ℤ◌, ◌*ℤ◌, ◌^◌, pos, IsTrue, length};
 ghost use Rattle.std.specs.Int.{int_shr};
 ghost use Rattle.po_holds.specs.Exact.{AreAfter, AreDigits, IsDigit, IsUpTo, number, total, whole};

@@ -1,3 +1,4 @@
+// Whether a predicate holds.
 ghost use Rattle.std.specs.Prelude.{ℤ, ◌≡◌, ◌↔◌, ◌*ℤ◌, pos, IsTrue};
 ghost use Rattle.po_memory.specs.Blocks.{IsFilled, IsNotNull, OnPointer, Spans};
 ghost use Rattle.po_memory.specs.Holding.{Holds};

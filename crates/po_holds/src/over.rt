@@ -1,3 +1,4 @@
+// Whether results stay within a type.
 ghost use Rattle.std.specs.Prelude.{ℕ, ℤ, ◌≡◌, ◌≢◌, ◌↔◌, ◌≤◌, ◌-◌, ◌^◌, ◌≤ℤ◌, ◌<ℤ◌, ◌+ℤ◌, ◌-ℤ◌, ◌*ℤ◌, neg_ℤ, pos, negsuc, IsTrue};
 ghost use Rattle.po_memory.specs.Blocks.{IsOfWidth, IsShifted, StaysIn, half};
 ghost use Rattle.po_memory.specs.Values.{EachNumber, EachSecond};

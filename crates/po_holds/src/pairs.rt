@@ -1,3 +1,4 @@
+// Predicates of two pointers.
 ghost use Rattle.std.specs.Prelude.{ℤ, ◌≡◌, ◌↔◌, ◌⊎◌, ◌≤ℤ◌, ◌+ℤ◌, IsTrue, slice_get};
 ghost use Rattle.po_memory.specs.Blocks.{AreApart, Fits, FitsOn, HasRoom, IntoOne, StandApart};
 ghost use Rattle.po_memory.specs.Values.{EachNumber, EachPointer};

@@ -1,3 +1,4 @@
+// Strings in the bytes of a block.
 ghost use Rattle.std.specs.Prelude.{◌≡◌, ◌≢◌, ◌≤◌, ◌<◌, ◌+◌, ◌↔◌, ◌≤ℤ◌, ◌<ℤ◌, ◌+ℤ◌, List, pos, IsTrue, MatchOption, Some, length, slice_get};
 ghost use Rattle.po_memory.specs.declared.value.Byte.{Byte};
 ghost use Rattle.po_holds.specs.Choosing.{AreSome};

@@ -1,3 +1,4 @@
+// The reader of initialisers (C99 6.7.8): a loop over its steps, without recursion.
 ghost use Rattle.std.specs.Prelude.{ℕ, ◌≡◌, ◌≤◌, ◌∷◌, ◌++◌, [], length, IfOk, IfSome, IfNone, Some, None, List as Sequence};
 ghost use Rattle.po_tree.specs.declared.declaration.Init.{Init as Tree};
 ghost use Rattle.po_tree.specs.Signs.{Sign};

@@ -1,3 +1,4 @@
+// Intervals of the results of bitwise operators (C99 6.5.10 to 6.5.12).
 ghost use Rattle.std.specs.Prelude.{◌≡◌};
 ghost use Rattle.po_arith.specs.Types.{IsIntType};
 ghost use Rattle.po_arith.specs.Ranges.{IsShort};

@@ -1,3 +1,4 @@
+// Intervals of the results of conversions (C99 6.3.1.3).
 ghost use Rattle.std.specs.Prelude.{◌≡◌, ◌≤ℤ◌, IfSome};
 ghost use Rattle.po_arith.specs.Types.{IsIntType};
 ghost use Rattle.po_interval.specs.Ranges as ranges;

@@ -1,3 +1,4 @@
+// Members of the results of operations on few numbers.
 ghost use Rattle.std.specs.Prelude.{◌≡◌, IfOk, ℤ, false, filter_map};
 ghost use Rattle.po_arith.specs.Types.{IsIntType, IsOfType};
 ghost use Rattle.po_interval.specs.Sets.{IsAmong, insert_all};

@@ -1,3 +1,4 @@
+// Laws of intervals and of members: their orders, joins, roundings and results.
 ghost use Rattle.po_interval.specs.Within as within;
 ghost use Rattle.po_interval.specs.Members as members;
 ghost use Rattle.po_interval.specs.Rounding.{RoundsToNearest, RoundingWidens};

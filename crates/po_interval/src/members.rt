@@ -1,3 +1,4 @@
+// Few numbers, or any: their order and joins.
 ghost use Rattle.std.specs.Prelude.{◌≡◌, IfOk};
 ghost use Rattle.po_interval.specs.Members as members;
 

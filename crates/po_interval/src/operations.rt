@@ -1,3 +1,4 @@
+// Intervals of the results of operations.
 ghost use Rattle.std.specs.Prelude.{◌≡◌, ◌^◌, ◌≤ℤ◌, ◌<ℤ◌, pos, negsuc, Some, false, IfSome};
 ghost use Rattle.po_arith.specs.Types.{IsIntType};
 ghost use Rattle.po_arith.specs.Ranges as arith;

@@ -1,3 +1,4 @@
+// The results of operations on numbers of a type (C99 6.5).
 ghost use Rattle.std.specs.Prelude.{◌≡◌, ◌<◌, ◌^◌, ◌*ℤ◌, ◌+ℤ◌, ◌-ℤ◌, ◌≢◌, pos, false, true, int_div, int_rem};
 ghost use Rattle.po_arith.specs.Types.{IsIntType, IsOfType};
 ghost use Rattle.po_interval.specs.Ranges.{takes_count};

@@ -1,3 +1,4 @@
+// Intervals rounded outwards to thresholds.
 ghost use Rattle.std.specs.Prelude.{◌≡◌};
 ghost use Rattle.po_interval.specs.Rounding as rounding;
 

@@ -1,3 +1,4 @@
+// Small sets of numbers.
 ghost use Rattle.std.specs.Prelude.{◌≡◌, IfOk};
 ghost use Rattle.po_interval.specs.Sets as sets;
 

@@ -1,3 +1,4 @@
+// The numbers at which intervals end.
 use po_base::OrdList;
 
 /// The numbers at which intervals of a function end: at the heads of its loops only the coarse ones, and

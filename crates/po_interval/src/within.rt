@@ -1,3 +1,4 @@
+// Whether one interval lies in another.
 ghost use Rattle.std.specs.Prelude.{◌≡◌};
 ghost use Rattle.po_interval.specs.Within as within;
 

@@ -1,3 +1,4 @@
+// Counts of faults, which only rise.
 ghost use Rattle.std.specs.Prelude.{◌≡◌, ◌<◌, ◌≤◌, ◌^◌, ◌-◌, ◌↔◌, ◌⊎◌, ℕ, IsTrue, Contains};
 ghost use Rattle.po_io.specs.Count.{risen, Rose};
 

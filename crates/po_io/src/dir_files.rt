@@ -1,3 +1,4 @@
+// The files of the system.
 ghost use Rattle.std.specs.Prelude.{ℕ, ◌≡◌, ◌≤◌, length, None, IfOk};
 ghost use Rattle.po_io.specs.Count.{risen};
 

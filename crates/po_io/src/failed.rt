@@ -1,3 +1,4 @@
+// A read or a write that failed.
 use thiserror::Error;
 
 /// A read or a write failed. The cause is outside the program, and which it was isn't told.

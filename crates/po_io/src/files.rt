@@ -1,3 +1,4 @@
+// The trait of files that are read by their names.
 ghost use Rattle.std.specs.Prelude.{ℕ, ◌≡◌, ◌≤◌, length, List, Option as Maybe, IfOk, OnErr};
 ghost use Rattle.po_io.specs.Count.{Rose};
 ghost use Rattle.po_io.specs.Reading.{GivesWhereTold};

@@ -1,3 +1,4 @@
+// Files in memory, for tests.
 ghost use Rattle.std.specs.Prelude.{ℕ, ◌≡◌, ◌≤◌, ◌-◌, ◌↔◌, ◌⊎◌, min, length, List as Items, IfOk, IfSome, IsErr, IsNone, OnErr, Contains, is_ok, if◌then◌else◌};
 ghost use Rattle.std.specs.Option.{option_copied};
 ghost use Rattle.po_io.specs.Count.{risen, Rose};

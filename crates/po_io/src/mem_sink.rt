@@ -1,3 +1,4 @@
+// A sink in memory, for tests.
 ghost use Rattle.std.specs.Prelude.{ℕ, ◌≡◌, ◌<◌, ◌≤◌, ◌+◌, ◌-◌, ◌↔◌, ◌⊎◌, min, [], ◌++◌, length, take, IfOk, IfErr, IsErr, OnErr, Contains, Some};
 ghost use Rattle.po_io.specs.Count.{risen, Rose};
 ghost use Rattle.po_io.specs.Writing.{Adds};

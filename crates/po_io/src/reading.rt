@@ -1,3 +1,4 @@
+// Whole files, read piece by piece up to a limit.
 ghost use Rattle.std.specs.Prelude.{ℕ, ◌≡◌, ◌<◌, ◌≤◌, length, List as Items, IfOk, IfErr, IfSome, IsErrOf, IsTrue, vec_len, false};
 ghost use Rattle.po_io.specs.Count.{Rose};
 ghost use Rattle.po_io.specs.Reading.{IsReadOf};

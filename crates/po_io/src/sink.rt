@@ -1,3 +1,4 @@
+// The trait of what takes bytes that are written.
 ghost use Rattle.std.specs.Prelude.{ℕ, ◌≡◌, ◌<◌, ◌≤◌, length, take, List, Option as Maybe, IfOk, OnErr};
 ghost use Rattle.po_io.specs.Count.{Rose};
 ghost use Rattle.po_io.specs.Writing.{Adds};

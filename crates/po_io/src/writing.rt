@@ -1,3 +1,4 @@
+// Bytes written whole.
 ghost use Rattle.std.specs.Prelude.{◌≡◌, ◌≤◌, OnOk, OnErr};
 ghost use Rattle.po_io.specs.Count.{Rose};
 ghost use Rattle.po_io.specs.Writing.{Adds, AddsPrefix};

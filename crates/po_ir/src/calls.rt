@@ -1,3 +1,4 @@
+// The calls of a project, by the function that is called.
 ghost use Rattle.std.specs.Prelude.{◌≡◌, ◌++◌, [], ◌∷◌, ◌==◌, cond, length, replicate, IfOk, OnOk};
 ghost use Rattle.po_ir.specs.Calls.{node_call, function_calls};
 ghost use Rattle.po_ir.specs.Calls as calls;

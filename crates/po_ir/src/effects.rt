@@ -1,3 +1,4 @@
+// What each function may do to memory.
 ghost use Rattle.std.specs.Prelude.{◌≡◌, ◌==◌, length, map, IfOk, slice_get};
 ghost use Rattle.po_ir.specs.Reaching.{effects_in, does, AreReaching, AreEffects};
 ghost use Rattle.po_ir.specs.Reaching as effect;

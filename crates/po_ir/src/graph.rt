@@ -1,3 +1,4 @@
+// Graphs of functions' bodies.
 use crate::instr::{Instr, Ty};
 use po_base::{List, Spot, Text};
 

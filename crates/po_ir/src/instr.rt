@@ -1,3 +1,4 @@
+// Instructions.
 use po_arith::IntType;
 use po_base::{FunNo, GlobalNo, LibNo, List, NodeNo, Op, Opnd, RegNo, SlotNo, StrNo, Text, UnOp};
 

@@ -1,3 +1,4 @@
+// Laws of graphs: ways through them, and the sites of calls.
 ghost use Rattle.po_ir.specs.Valid.{WaysStayWithin};
 ghost use Rattle.po_ir.specs.Calls.{SitesAreCalls};
 

@@ -1,3 +1,4 @@
+// Projects: the functions and globals of all files.
 use crate::graph::Graph;
 use po_arith::Target;
 use po_base::{FileNo, List, Spot, Text};

@@ -1,3 +1,4 @@
+// Which functions' calls reach others.
 ghost use Rattle.std.specs.Prelude.{false, true, ◌≡◌, ◌≢◌, ◌<◌, ◌++◌, ◌↔◌, Some, Contains, IfOk, OnOk, IsTrue, length, map, replicate, slice_get};
 ghost use Rattle.po_ir.specs.Leading.{AreLeading, Visits, caller_of, start_of};
 ghost use Rattle.po_ir.specs.General.{each_from};

@@ -1,3 +1,4 @@
+// Units: what is known of one file.
 use crate::project::{CTypeText, Effects, Function, Global};
 use po_base::{LibNo, List, Spot, Text};
 

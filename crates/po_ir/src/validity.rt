@@ -1,3 +1,4 @@
+// Whether a graph is valid.
 ghost use Rattle.std.specs.Prelude.{◌≡◌, ◌<◌, ◌↔◌, IsTrue, All, length};
 ghost use Rattle.po_ir.specs.Instructions.{operands, opened, entered, used};
 ghost use Rattle.po_ir.specs.Instructions as instructions;

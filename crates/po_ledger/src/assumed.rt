@@ -1,3 +1,4 @@
+// The predicates that are assumed of functions.
 ghost use Rattle.std.specs.Prelude.{◌≡◌, ◌++◌, ◌↔◌, ◌<◌, [], ◌∷◌, map, IsTrue, IfOk, OnOk, OnErr};
 ghost use Rattle.std.specs.List.{Contains};
 ghost use Rattle.indexmap.specs.IndexSet.{spare};

@@ -1,3 +1,4 @@
+// The call sites of functions, asked for once.
 ghost use Rattle.std.specs.Prelude.{◌≡◌, ◌<◌, List, Some, slice_get, IfOk};
 ghost use Rattle.po_base.specs.declared.numbers.FunNo.{FunNo};
 ghost use Rattle.po_base.specs.declared.numbers.NodeNo.{NodeNo};

@@ -1,3 +1,4 @@
+// Whether a ticket is one that the ledger has handed out and still keeps.
 ghost use Rattle.std.specs.Prelude.{◌≡◌, ◌↔◌, map, IsTrue};
 ghost use Rattle.po_core.specs.Core.{AreApart};
 ghost use Rattle.po_ledger.specs.Parts.{HasVerdict, AgreesOn, IsHandOf};

@@ -1,3 +1,4 @@
+// Who holds which file, and with what.
 ghost use Rattle.std.specs.Prelude.{◌≡◌, ◌<◌, ◌≤◌, ◌+◌, ◌↔◌, length, replicate, slice_get, slice_set, Some, None, IsTrue, IfOk, IfSome, IfNone};
 ghost use Rattle.po_ledger.specs.Parts.{HandAt};
 

@@ -1,3 +1,4 @@
+// The ledger that workers share.
 ghost use Rattle.std.specs.Prelude.{◌≡◌, ◌↔◌, ◌<◌, [], Bool, length, slice_set, IsTrue, IfOk, IfSome, IfNone, OnErr, OnOk};
 ghost use Rattle.po_base.specs.declared.numbers.FileNo.{FileNo};
 ghost use Rattle.po_core.specs.Core.{CanTake, IsHeld, IsInHand, IsKnown, IsLegal, IsQuiet, IsUntaken};

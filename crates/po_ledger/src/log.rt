@@ -1,3 +1,4 @@
+// The journal of a ledger, with room made before it is needed.
 ghost use Rattle.std.specs.Prelude.{◌≡◌, ◌<◌, ◌≤◌, ◌+◌, ◌++◌, [], ◌∷◌, OnOk, OnErr};
 
 use po_base::{List, Memory};

@@ -1,3 +1,4 @@
+// The trait by which a lock's type says of which book its ledger is.
 ghost use Rattle.po_core.specs.Book.{Book};
 
 use std::marker::Brand;

@@ -1,3 +1,4 @@
+// What a ledger answers a worker that asks for work, and why it gives no report.
 use crate::naming::Naming;
 use crate::ticket::Ticket;
 use po_base::Memory;

@@ -1,3 +1,4 @@
+// Values worked out of functions, by function.
 ghost use Rattle.std.specs.Prelude.{◌≡◌, ◌++◌, [], ◌∷◌, IfSome, IfNone, OnOk, OnErr, Some, slice_get, length};
 ghost use Rattle.po_base.specs.declared.numbers.FunNo.{FunNo};
 ghost use Rattle.po_ledger.specs.Made.{HasTable};

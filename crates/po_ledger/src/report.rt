@@ -1,3 +1,4 @@
+// The report of a ledger, in its order.
 ghost use Rattle.std.specs.Prelude.{◌≡◌, ◌↔◌, ◌<◌, ◌+◌, map, IfOk, OnOk, IsTrue};
 ghost use Rattle.std.specs.List.{Contains, AllPairs};
 ghost use Rattle.std.specs.declared.cmp.Ordering.TheVariants.{Less};

@@ -1,3 +1,4 @@
+// Whether two obligations are the same.
 ghost use Rattle.std.specs.Prelude.{◌≡◌, ◌↔◌, IsTrue};
 
 use po_core::{Cause, Obl, Rulebook};

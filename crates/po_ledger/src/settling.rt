@@ -1,3 +1,4 @@
+// The whole hand of a ticket, settled.
 ghost use Rattle.std.specs.Prelude.{◌≡◌, ◌<◌, length, OnOk, OnErr};
 ghost use Rattle.po_core.specs.Core.{KeepsHands};
 ghost use Rattle.po_ledger.specs.Hands.{AreVerdicts, Extends, IsDue, IsSettledUpTo, KeepsItems, PostsBefore, SettlesHand, SettlesPlace};

@@ -1,3 +1,4 @@
+// Tables that a ledger keeps, by file.
 ghost use Rattle.std.specs.Prelude.{◌≡◌, ◌<◌, [], length, replicate, slice_get, slice_set, Some, IfOk};
 
 use crate::per_function::PerFunction;

@@ -1,3 +1,4 @@
+// The work that a worker holds.
 ghost use Rattle.std.specs.Prelude.{◌≡◌, ◌<◌, length, slice_set, true, IfOk, Some, slice_get};
 ghost use Rattle.po_core.specs.declared.obl.Obl.{Obl};
 ghost use Rattle.po_ledger.specs.Calls.{IsItemAt, KeepsTicket, Judges};

@@ -1,3 +1,4 @@
+// Kinds of bytes (C99 5.2.1, 6.4).
 ghost use Rattle.std.specs.Prelude.{◌≡◌};
 ghost use Rattle.po_lex.specs.Bytes.{is_blank, is_space, is_gap, is_digit, is_letter, is_exponent, are};
 

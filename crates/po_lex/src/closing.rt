@@ -1,3 +1,4 @@
+// How many tokens the parentheses have that begin at each token, told on the way back from the end.
 ghost use Rattle.std.specs.Prelude.{◌≡◌, ◌<◌, ◌^◌, ◌+◌, ◌∷◌, [], length, reverse, IfOk, OnOk};
 ghost use Rattle.po_lex.specs.Closings.{closings, met, opened, parens_from_each, width};
 

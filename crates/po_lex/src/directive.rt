@@ -1,3 +1,4 @@
+// What the lines of the preprocessor say: line markers, and lines that are skipped (C99 6.10).
 ghost use Rattle.std.specs.Prelude.{◌≡◌, ◌≤◌, ◌<◌, ◌+◌, ◌*◌, ◌-◌, ◌^◌, ◌==◌, ◌||◌, ◌&&◌, not, ℕ, min, length, take, drop, false, true, codes, IfOk, IsTrue, ◌++◌, ◌∷◌, List as Bytes};
 ghost use Rattle.std.specs.List.{list_any};
 ghost use Rattle.po_lex.specs.Bytes.{is_digit};

@@ -1,3 +1,4 @@
+// What a line of the preprocessor says of the lines after it.
 ghost use Rattle.std.specs.Prelude.{◌≡◌, nat_le};
 ghost use Rattle.std.specs.List.{list_all};
 ghost use Rattle.po_lex.specs.Directives.{is_name, is_proper};

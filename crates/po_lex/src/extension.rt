@@ -1,3 +1,4 @@
+// The words of the compiler's own that are dropped or read as others.
 ghost use Rattle.std.specs.Prelude.{◌≡◌, ◌∷◌, [], cond, map};
 ghost use Rattle.po_lex.specs.Keeping.{extension_of, extension_word, is_among, is_one_of, telling, tells};
 

@@ -1,3 +1,4 @@
+// The tokens that are kept.
 ghost use Rattle.std.specs.Prelude.{ℕ, ◌≡◌, ◌≤◌, ◌<◌, ◌+◌, ◌-◌, ◌^◌, ◌++◌, ◌==◌, ◌&&◌, length, take, drop, map, slice_index, IfOk, OnOk, List as Items};
 ghost use Rattle.po_base.specs.declared.token.Token.{Token as Placed};
 ghost use Rattle.po_lex.specs.Brackets.{closer, is_closer, mark};

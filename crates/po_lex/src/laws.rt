@@ -1,3 +1,4 @@
+// Laws of tokens and pieces: what parts are in the terms of C99, and that there is one division.
 ghost use Rattle.std.specs.Prelude.{ℕ, ◌≡◌, ◌≤◌, ◌⊎◌, ◌++◌, ◌^◌, Bool, true, false, [], Some, min, map, length, List as Items};
 ghost use Rattle.po_base.specs.declared.token.Token.{Token as Placed};
 ghost use Rattle.po_base.specs.declared.token.Tokens.{Tokens as Lists};

@@ -1,3 +1,4 @@
+// The tokens of a file's bytes.
 ghost use Rattle.std.specs.Prelude.{ℕ, ◌≡◌, ◌+◌, ◌-◌, ◌<◌, ◌≤◌, ◌^◌, ◌++◌, ◌∷◌, [], ◌≢◌, length, take, drop, slice_index, IfOk, IfErr, OnOk, List as Items};
 ghost use Rattle.po_base.specs.declared.token.Token.{Token as Placed};
 ghost use Rattle.po_lex.specs.Bytes.{newlines};

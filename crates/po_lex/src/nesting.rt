@@ -1,3 +1,4 @@
+// The brackets that are open at a place among tokens.
 ghost use Rattle.std.specs.Prelude.{ℕ, ◌≡◌, ◌∷◌, [], cond, IfOk, IfErr, IsTrue, true, false, reverse};
 ghost use Rattle.po_lex.specs.Brackets.{closer, ends, ends_in, is_closer, is_punct, is_word, lone, mark, outset, pop, state_of, step};
 

@@ -1,3 +1,4 @@
+// The part that stands at a place of a file: a blank, a comment, a directive or a token.
 ghost use Rattle.std.specs.Prelude.{ℕ, ◌≡◌, ◌+◌, ◌-◌, ◌<◌, ◌≤◌, ◌++◌, ◌^◌, length, take, drop, slice_index, IfOk, IfSome, IfNone, IsTrue, false, List as Bytes, option_to_list};
 ghost use Rattle.po_lex.specs.Bytes.{newlines};
 ghost use Rattle.po_lex.specs.PartKinds.{part_kind_of, opening, row_of, closing, token_kind_of, lines};

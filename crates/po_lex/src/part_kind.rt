@@ -1,3 +1,4 @@
+// Kinds of parts, as their first bytes tell them.
 ghost use Rattle.std.specs.Prelude.{◌≡◌};
 ghost use Rattle.po_lex.specs.PartKinds.{part_kind_at};
 

@@ -1,3 +1,4 @@
+// Places in a file, with what the line markers before them said.
 ghost use Rattle.std.specs.Prelude.{◌≡◌, ◌+◌, ◌<◌, ◌≤◌, ◌^◌, ◌∷◌, [], length};
 ghost use Rattle.po_lex.specs.Bytes.{newlines};
 ghost use Rattle.po_lex.specs.Division.{freshly, moved, next_line};

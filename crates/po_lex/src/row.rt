@@ -1,3 +1,4 @@
+// Rows of bytes: how far a word, a number, a comment or a literal goes on.
 ghost use Rattle.std.specs.Prelude.{◌≡◌, ◌≤◌, ◌-◌, length, take, drop};
 ghost use Rattle.po_lex.specs.Rows.{goes_on, behind, front, skip};
 

@@ -1,3 +1,4 @@
+// The pieces of tokens: declarations and definitions.
 ghost use Rattle.std.specs.Prelude.{ℕ, ◌≡◌, ◌<◌, ◌≤◌, ◌+◌, ◌^◌, ◌∷◌, [], length, IfOk, IfErr, List as Items};
 ghost use Rattle.po_base.specs.declared.token.Token.{Token as Placed};
 ghost use Rattle.po_lex.specs.Brackets.{state_of};

@@ -1,3 +1,4 @@
+// Punctuators (C99 6.4.6).
 ghost use Rattle.std.specs.Prelude.{ℕ, ◌≡◌, ◌≤◌, ◌∷◌, length, map, IsTrue, nat_eq, List as Bytes};
 ghost use Rattle.std.specs.List.{starts_with};
 ghost use Rattle.po_lex.specs.PartKinds.{longest, signs};

@@ -1,3 +1,4 @@
+// The parts of a project, put together file by file.
 ghost use Rattle.std.specs.Prelude.{◌≡◌, ◌++◌, ◌+◌, ℕ, List, flat_map, length, slice_get, unwrap_or, IfOk, OnOk};
 ghost use Rattle.po_ir.specs.declared.unit.Unit.{Unit as UnitOf};
 ghost use Rattle.po_ir.specs.General.{each_from};

@@ -1,3 +1,4 @@
+// Laws of joined files: one project, with its functions in order.
 ghost use Rattle.po_link.specs.Joined.{OneProject, StandsByFile};
 ghost use Rattle.po_link.specs.Outcome.{OneFunctionEach, OneOutcome};
 

@@ -1,3 +1,4 @@
+// Files joined to a project.
 ghost use Rattle.po_link.specs.Outcome.{IsOutcome};
 
 use crate::join::join_files;

@@ -1,3 +1,4 @@
+// The globals of a project.
 ghost use Rattle.std.specs.Prelude.{◌≡◌, ◌≢◌, ◌++◌, ◌+◌, ◌∷◌, [], List, Some, cond, find, flat_map, option_copied, slice_get, length, IfOk, OnOk};
 ghost use Rattle.std.specs.List.{list_any};
 ghost use Rattle.po_symbols.specs.Names.{listed};

@@ -1,3 +1,4 @@
+// Functions with the numbers of the project.
 ghost use Rattle.std.specs.Prelude.{◌≡◌, ◌++◌, map, IfOk, OnOk};
 ghost use Rattle.std.specs.Option.{option_map_or};
 ghost use Rattle.po_ir.specs.declared.instr.Instr.TheVariants as instruction;

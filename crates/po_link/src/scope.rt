@@ -1,3 +1,4 @@
+// What the names and numbers of a file mean in the project.
 ghost use Rattle.std.specs.Prelude.{◌≡◌, ◌+◌, ◌++◌, ◌∷◌, [], ℕ, List, None, cond, bytes_eq, find, position, option_map, unwrap_or, slice_get, IfOk, OnOk};
 ghost use Rattle.std.specs.Option.{option_or};
 ghost use Rattle.std.specs.Ordering.{nat_cmp};

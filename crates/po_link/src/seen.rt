@@ -1,3 +1,4 @@
+// The functions and library functions that files see of each other.
 ghost use Rattle.std.specs.Prelude.{◌≡◌, ◌++◌, ◌+◌, ◌∷◌, [], List, flat_map, IfOk, OnOk};
 ghost use Rattle.po_link.specs.Joined.{functions_of, libs_of};
 ghost use Rattle.po_link.specs.Noted.{AreSeen, AreNoted};

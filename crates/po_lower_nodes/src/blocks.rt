@@ -1,3 +1,4 @@
+// Nodes at the beginnings and ends of blocks, and of the cases of a switch (C99 6.2.4, 6.8.4.2).
 ghost use Rattle.std.specs.Prelude.{◌≡◌, ◌∷◌, [], length, map, Some, OnOk};
 ghost use Rattle.po_ir.specs.declared.instr.Instr.TheVariants as ins;
 ghost use Rattle.po_lowering.specs.Blocks.{leaves, case_tests as tests_of, enter_node};

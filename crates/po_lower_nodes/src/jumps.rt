@@ -1,3 +1,4 @@
+// Branches, jumps and returns (C99 6.8.4, 6.8.6).
 ghost use Rattle.std.specs.Prelude.{◌≡◌, OnOk, pos};
 ghost use Rattle.po_base.specs.declared.operators.Op.TheVariants as op_is;
 ghost use Rattle.po_base.specs.declared.operand.Opnd.TheVariants as o;

@@ -1,3 +1,4 @@
+// Operands that are held while later ones are evaluated, and registers that are written.
 ghost use Rattle.std.specs.Prelude.{◌≡◌, true, Some, IfOk, OnOk};
 ghost use Rattle.po_lowering.specs.Temporaries.{type_in, put as put_instr};
 ghost use Rattle.po_base.specs.declared.operand.Opnd.TheVariants as o;

@@ -1,3 +1,4 @@
+// Addresses, unary operators and calls (C99 6.5.2.2, 6.5.3).
 ghost use Rattle.std.specs.Prelude.{◌≡◌, ◌+◌, ◌<◌, ◌∷◌, [], length, IfOk, OnOk, pos, Some, None};
 ghost use Rattle.po_base.specs.declared.operators.Op.TheVariants as op_is;
 ghost use Rattle.po_base.specs.declared.operand.Opnd.TheVariants as o;

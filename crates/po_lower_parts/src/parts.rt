@@ -1,3 +1,4 @@
+// Nodes that convert a value, read an object, and move an address to a member.
 ghost use Rattle.std.specs.Prelude.{◌≡◌, length, pos, true, IfOk};
 ghost use Rattle.po_base.specs.declared.operand.Opnd.TheVariants as o;
 ghost use Rattle.po_ir.specs.declared.instr.Instr.TheVariants as ins;

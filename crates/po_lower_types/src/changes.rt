@@ -1,3 +1,4 @@
+// What conversions do to values (C99 6.3).
 ghost use Rattle.std.specs.Prelude.{◌≡◌, nat_lt};
 ghost use Rattle.po_lowering.specs.Conversions as conversions;
 ghost use Rattle.po_lowering.specs.Typed.{Typed};

@@ -1,3 +1,4 @@
+// The instructions of binary operators, by the types of their operands.
 ghost use Rattle.std.specs.Prelude.{◌≡◌, neg_ℤ, true};
 ghost use Rattle.po_ir.specs.declared.instr.Instr.TheVariants as ins;
 ghost use Rattle.po_lowering.specs.Conversions as conversions;

@@ -1,3 +1,4 @@
+// How values of a type are held.
 ghost use Rattle.std.specs.Prelude.{◌≡◌, MatchOption, true, false};
 ghost use Rattle.po_lowering.specs.Types as types;
 ghost use Rattle.po_lowering.specs.Conversions as conversions;

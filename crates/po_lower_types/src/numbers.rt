@@ -1,3 +1,4 @@
+// Whether numbers are values of a type.
 ghost use Rattle.std.specs.Prelude.{◌≡◌, ◌&&◌, nat_lt, int_le, pos, neg_ℤ, ◌^◌, ◌-◌};
 ghost use Rattle.po_lowering.specs.Types as types;
 

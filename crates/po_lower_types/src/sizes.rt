@@ -1,3 +1,4 @@
+// Sizes, alignments and accesses of types.
 ghost use Rattle.std.specs.Prelude.{◌≡◌, ◌<◌, ◌^◌, ◌≤ℤ◌, pos};
 ghost use Rattle.po_lowering.specs.Types as types;
 ghost use Rattle.po_lowering.specs.Conversions as conversions;

@@ -1,3 +1,4 @@
+// Nodes that combine, step, load and write values, by the types of C.
 ghost use Rattle.std.specs.Prelude.{IfOk, OnOk};
 ghost use Rattle.po_ir.specs.declared.instr.Instr.TheVariants as ins;
 ghost use Rattle.po_lowering.specs.Typed.{Typed};

@@ -1,3 +1,4 @@
+// Laws of lowering: each tree has one graph at most.
 ghost use Rattle.po_lowering.specs.Same.{OneCondition, OneGraph, OneUnused, OneValue};
 
 /// An expression has one value and one row of nodes at most. It does nothing.

@@ -1,3 +1,4 @@
+// Where variables are kept.
 use po_base::{GlobalNo, RegNo, SlotNo};
 
 /// Where a variable that a name names is kept.

@@ -1,3 +1,4 @@
+// Obligations that become known: those of all functions at first, and those of call sites.
 ghost use Rattle.std.specs.Prelude.{◌≡◌, ◌<◌, [], ℕ, map, IfOk, OnOk, OnErr};
 ghost use Rattle.std.specs.List.{Contains};
 ghost use Rattle.po_core.specs.Core.{AreApart};

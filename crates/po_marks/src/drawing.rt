@@ -1,3 +1,4 @@
+// All that waits in the first file in line, drawn at once.
 ghost use Rattle.std.specs.Prelude.{◌≡◌, ◌+◌, ◌<◌, ◌≤◌, ◌++◌, [], ◌∷◌, List, true, false, length, map, slice_get, Some, IfOk};
 ghost use Rattle.po_base.specs.declared.numbers.FileNo.{FileNo};
 ghost use Rattle.po_core.specs.Book.{file_of_obl};

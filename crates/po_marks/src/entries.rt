@@ -1,3 +1,4 @@
+// The known obligations with their marks, by an index.
 ghost use Rattle.std.specs.Prelude.{◌≡◌, ◌++◌, ◌↔◌, ◌<◌, [], ◌∷◌, length, map, slice_index_or, IsTrue, IfSome, IfNone, IsOk, OnOk, OnErr, None};
 ghost use Rattle.std.specs.List.{Contains};
 ghost use Rattle.indexmap.specs.IndexMap.{spare};

@@ -1,3 +1,4 @@
+// The line of the files that can be taken.
 ghost use Rattle.std.specs.Prelude.{◌≡◌, ◌<◌, ◌++◌, [], ◌∷◌, List, Bool, true, false, IfOk, length};
 ghost use Rattle.std.specs.VecDeque.{deque_len, deque_capacity};
 ghost use Rattle.po_base.specs.declared.numbers.FileNo.{FileNo};

@@ -1,3 +1,4 @@
+// The known obligations with their marks, with what waits in each file and which files can be taken.
 ghost use Rattle.std.specs.Prelude.{◌≡◌, ◌<◌, ◌≤◌, ◌+◌, [], ◌∷◌, List, false, length, replicate, MatchOption, IfOk};
 ghost use Rattle.po_base.specs.declared.numbers.FileNo.{FileNo};
 ghost use Rattle.po_marks.specs.Waiting.{waiting_count};

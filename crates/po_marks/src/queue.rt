@@ -1,3 +1,4 @@
+// What waits in a file, and whether a worker holds it.
 ghost use Rattle.std.specs.Prelude.{◌≡◌, ◌<◌, [], false, length, replicate, slice_get, slice_set, Some, IfOk, OnOk, OnErr};
 ghost use Rattle.po_core.specs.declared.obl.Obl.{Obl};
 ghost use Rattle.po_marks.specs.Waiting.{free, is_ready, lengthened};

@@ -1,3 +1,4 @@
+// Obligations that are settled, and files that are freed.
 ghost use Rattle.std.specs.Prelude.{◌≡◌, ◌↔◌, ◌<◌, true, false, IsTrue, length, map, slice_get, Some};
 ghost use Rattle.std.specs.List.{Contains};
 ghost use Rattle.po_core.specs.Book.{file_of_obl};

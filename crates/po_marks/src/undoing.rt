@@ -1,3 +1,4 @@
+// Obligations that were added last, taken out again.
 ghost use Rattle.std.specs.Prelude.{◌≡◌, ℕ, length};
 ghost use Rattle.po_core.specs.declared.obl.Obl.{Obl};
 ghost use Rattle.po_marks.specs.Waiting.{AddsInTurn, AddsNew, Marking};

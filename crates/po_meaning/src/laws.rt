@@ -1,3 +1,4 @@
+// Laws of steps: what is violated first, and which states belong to a project.
 ghost use Rattle.po_meaning.specs.Laws.{OneIsFirst, NoneIsFirst, EntryKeepsHolds, PlainStepsStay};
 ghost use Rattle.po_meaning.specs.Following.{LibraryCallsPass, OneOrAll, StatesFollow};
 ghost use Rattle.po_meaning.specs.Staying.{LibraryStepsStay, StepsStay};

@@ -1,3 +1,4 @@
+// States of a run.
 use po_base::List;
 use po_memory::{Frame, Memory2, Value};
 

@@ -1,3 +1,4 @@
+// Blocks of memory.
 ghost use Rattle.std.specs.Prelude.{◌≡◌, ◌≤◌, ◌<◌, ◌↔◌, IsTrue, MatchOption, length, pos};
 ghost use Rattle.po_memory.specs.Blocks.{HaveValues, IsAligned, IsInside, Spans};
 ghost use Rattle.po_memory.specs.Walking as walking;

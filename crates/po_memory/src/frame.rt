@@ -1,3 +1,4 @@
+// Functions that run.
 use crate::value::Value;
 use po_base::{FunNo, List, NodeNo};
 

@@ -1,3 +1,4 @@
+// Laws of memory: what is stored is read, and what stays.
 ghost use Rattle.po_memory.specs.Accesses.{LoadAsks, StoreAsks, StoresAreRead};
 ghost use Rattle.po_memory.specs.Passing.{SubstKeepsHolds};
 ghost use Rattle.po_memory.specs.Since.{CopiesKeep, FillsKeep, FreshKeeps, KillsKeep, NewKeeps, SinceFurther, SinceItself, SinceThrough, StoresKeep};

@@ -1,3 +1,4 @@
+// All blocks that were ever made.
 ghost use Rattle.std.specs.Prelude.{◌≡◌, ◌++◌, IfOk, OnErr, [], ◌∷◌, length};
 
 use crate::block::Block;

@@ -1,3 +1,4 @@
+// Values read from memory (C99 6.2.6, 6.3.2.1).
 ghost use Rattle.std.specs.Prelude.{◌≡◌, ◌≤◌, ◌↔◌, IsTrue, IsSome, IfSome, MatchOption, length, slice_range};
 ghost use Rattle.po_arith.specs.Types.{IsIntType};
 ghost use Rattle.po_memory.specs.Accesses.{LoadAllowed, Loads};

@@ -1,3 +1,5 @@
+// Values of registers, and bytes of memory.
+
 /// The value of a register or of an argument.
 #[derive(Clone, Copy, Debug, PartialEq, Eq)]
 pub enum Value {

@@ -1,3 +1,4 @@
+// Values written to memory (C99 6.2.6).
 ghost use Rattle.std.specs.Prelude.{◌≡◌, ◌≤◌, ◌<◌, ◌+◌, ◌-◌, ◌↔◌, IsTrue, IsFalse, MatchOption, length, slice_get};
 ghost use Rattle.po_memory.specs.Accesses.{Kills, StoreAllowed, Stores};
 ghost use Rattle.po_memory.specs.Blocks.{OnBlock};

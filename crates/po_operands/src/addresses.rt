@@ -1,3 +1,4 @@
+// Lvalues, and what has an address (C99 6.3.2.1, 6.5.3.2).
 ghost use Rattle.std.specs.Prelude.{MatchBool};
 ghost use Rattle.po_tree.specs.declared.expression.Exp.{out-Exp};
 ghost use Rattle.po_typed.specs.Expressions.{IsLvalue, HasAddress};

@@ -1,3 +1,4 @@
+// Whether two declarations of one name agree (C99 6.2.7).
 ghost use Rattle.std.specs.Prelude.{◌≡◌, ◌⊎◌, MatchBool, None};
 ghost use Rattle.po_types.specs.Types.{Agree};
 

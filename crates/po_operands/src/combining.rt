@@ -1,3 +1,4 @@
+// What binary operators make of the types of their operands (C99 6.5.5 to 6.5.12).
 ghost use Rattle.std.specs.Prelude.{◌≡◌, ◌≢◌, IfOk};
 ghost use Rattle.po_base.specs.declared.operators.Op.TheVariants as o;
 ghost use Rattle.po_types.specs.declared.ctype.CType.TheVariants as c;

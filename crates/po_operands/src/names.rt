@@ -1,3 +1,4 @@
+// Objects and enumerators that identifiers mean (C99 6.5.1).
 ghost use Rattle.std.specs.Prelude.{◌≡◌, MatchBool, MatchOption, Some};
 ghost use Rattle.po_tree.specs.declared.expression.Exp.TheOpen.{Exp-F};
 ghost use Rattle.po_types.specs.declared.ctype.CType.{CType as TypeOf};

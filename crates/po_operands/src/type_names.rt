@@ -1,3 +1,4 @@
+// What the specifiers and stars of type names say (C99 6.7.6).
 ghost use Rattle.std.specs.Prelude.{◌≡◌, Bool, MatchBool, IfOk, Some};
 ghost use Rattle.po_tree.specs.declared.expression.Specifier.{out-Specifier};
 ghost use Rattle.po_tree.specs.declared.expression.Suffix.{out-Suffix};

@@ -1,3 +1,4 @@
+// The types of values (C99 6.3.2.1), and what tests, steps and comparisons convert them to.
 ghost use Rattle.std.specs.Prelude.{◌≡◌, cond, MatchBool, IfOk, Some, None};
 ghost use Rattle.std.specs.Option.{is_some};
 ghost use Rattle.po_types.specs.Types.{layout_of as layout_in};

@@ -1,3 +1,4 @@
+// Values stored, and bytes copied.
 ghost use Rattle.std.specs.Prelude.{◌≡◌, ◌≤◌, ◌+◌, ℕ, IfOk, pos, length};
 ghost use Rattle.po_ir.specs.declared.graph.Graph.{Graph};
 ghost use Rattle.po_ir.specs.declared.instr.Instr.TheVariants as instr;

@@ -1,3 +1,4 @@
+// Pointers: made, moved, subtracted and followed.
 ghost use Rattle.std.specs.Prelude.{◌≡◌, ◌≤◌, Some, IfOk, slice_get, ◌*ℤ◌};
 ghost use Rattle.po_arith.specs.Types.{IsIntType};
 ghost use Rattle.po_ir.specs.declared.graph.Reg.{Reg as Register};

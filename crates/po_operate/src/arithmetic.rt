@@ -1,3 +1,4 @@
+// Operators, tests and conversions on values (C99 6.3, 6.5).
 ghost use Rattle.std.specs.Prelude.{◌≡◌, ℤ, Some, IfOk};
 ghost use Rattle.po_arith.specs.Types.{IsIntType};
 ghost use Rattle.po_interval.specs.Results as results;

@@ -1,3 +1,4 @@
+// Frames that go on: registers, slots and the next node.
 ghost use Rattle.std.specs.Prelude.{◌≡◌, ◌+◌, IfOk, OnOk, slice_set};
 ghost use Rattle.po_meaning.specs.Operands as operands;
 ghost use Rattle.po_operate.specs.Finding.{Puts};

@@ -1,3 +1,4 @@
+// An instruction that stays in its frame, carried out.
 ghost use Rattle.std.specs.Prelude.{◌≡◌, ◌+◌, IfOk, pos, length};
 ghost use Rattle.po_meaning.specs.Local as relation;
 ghost use Rattle.po_memory.specs.declared.value.Value.TheVariants as value;

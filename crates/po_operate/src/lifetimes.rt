@@ -1,3 +1,4 @@
+// Variables that come to be and end (C99 6.2.4).
 ghost use Rattle.std.specs.Prelude.{◌≡◌, IfOk, replicate};
 ghost use Rattle.po_ir.specs.declared.graph.Graph.{Graph as Body};
 ghost use Rattle.po_ir.specs.declared.instr.Instr.TheVariants as instr;

@@ -1,3 +1,4 @@
+// The values of operands.
 ghost use Rattle.std.specs.Prelude.{◌≡◌, ℤ, IfOk};
 ghost use Rattle.po_memory.specs.Values as values;
 ghost use Rattle.po_meaning.specs.Operands as operands;

@@ -1,3 +1,4 @@
+// Comparisons of pointers (C99 6.5.8, 6.5.9).
 ghost use Rattle.std.specs.Prelude.{◌≡◌};
 ghost use Rattle.po_meaning.specs.Pointers as comparisons;
 ghost use Rattle.po_meaning.specs.Pointers.{MayCompare, MayEqual, MayOrder};

@@ -1,3 +1,4 @@
+// Hashes of predicates.
 ghost use Rattle.std.specs.Prelude.{◌≡◌, fold};
 ghost use Rattle.po_pred.specs.Hashing as hashing;
 ghost use Rattle.po_pred.specs.Hashing.{place_writes, pred_writes};

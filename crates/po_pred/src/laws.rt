@@ -1,3 +1,4 @@
+// Laws of predicates: their order, and that there are finitely many.
 ghost use Rattle.std.specs.Prelude.{◌≡◌, ◌↔◌, ℕ, IsTrue};
 ghost use Rattle.std.specs.List.{Contains};
 ghost use Rattle.std.specs.Ordering.{eq_by_cmp};

@@ -1,3 +1,4 @@
+// Predicates: what has to hold at a node.
 use po_base::RegNo;
 
 /// What a place stands on: a register of the frame, or an argument at the function's entry, counted from 0.

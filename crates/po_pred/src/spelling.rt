@@ -1,3 +1,4 @@
+// The spelling of predicates.
 ghost use Rattle.std.specs.Prelude.{◌≡◌, ◌++◌, ◌*ℤ◌, true, IfOk, OnOk};
 ghost use Rattle.po_pred.specs.Spelling as spelling;
 ghost use Rattle.po_pred.specs.View.{view_of};

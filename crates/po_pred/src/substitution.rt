@@ -1,3 +1,4 @@
+// Arguments put into the predicates of a called function.
 ghost use Rattle.std.specs.Prelude.{◌≡◌, All, Option, option_map, length};
 ghost use Rattle.po_pred.specs.View.{places_of};
 ghost use Rattle.po_pred.specs.Subst as substs;

@@ -1,3 +1,4 @@
+// What all kinds of predicates have in common.
 ghost use Rattle.std.specs.Prelude.{◌≡◌};
 ghost use Rattle.po_pred.specs.View as views;
 

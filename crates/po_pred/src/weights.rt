@@ -1,3 +1,4 @@
+// Weights of predicates.
 ghost use Rattle.std.specs.Prelude.{◌≡◌, ◌≤◌};
 ghost use Rattle.po_pred.specs.Weight as weights;
 

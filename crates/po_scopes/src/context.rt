@@ -1,3 +1,4 @@
+// What identifiers and tags mean at a place (C99 6.2.1, 6.2.3).
 ghost use Rattle.std.specs.Prelude.{◌≡◌, [], get_or};
 ghost use Rattle.std.specs.Option.{option_map, option_copied};
 ghost use Rattle.po_types.specs.Tables.{found};

@@ -1,3 +1,4 @@
+// The law of what an environment shows.
 ghost use Rattle.po_scopes.specs.Laws.{EnvironmentShowsWhatIsInForce};
 
 /// An environment shows what is in force in its file. It does nothing.

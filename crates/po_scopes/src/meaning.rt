@@ -1,3 +1,4 @@
+// What identifiers and tags can mean.
 use po_base::GlobalNo;
 use po_types::CType;
 

@@ -1,3 +1,4 @@
+// The scopes that are open inside the file's.
 ghost use Rattle.std.specs.Prelude.{◌≡◌, ◌≢◌, [], ◌∷◌, ◌++◌, None, OnOk, OnErr, MatchOption, drop};
 ghost use Rattle.std.specs.Option.{option_map, is_some};
 ghost use Rattle.po_typed.specs.Scopes.{no_block, word_in, word_here, tag_in, tag_here, within_innermost};

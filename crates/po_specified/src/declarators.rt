@@ -1,3 +1,4 @@
+// What declarators make of types: stars and `restrict` (C99 6.7.3, 6.7.5.1).
 ghost use Rattle.std.specs.Prelude.{ℕ, List as Bytes, ◌≡◌, MatchBool, IfOk};
 ghost use Rattle.po_typed.specs.BaseTypes as base;
 ghost use Rattle.po_typed.specs.BaseTypes.{CanBeStarred, RestrictFits, ArePointers};

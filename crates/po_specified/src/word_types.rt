@@ -1,3 +1,4 @@
+// The types of type words (C99 6.7.2).
 ghost use Rattle.std.specs.Prelude.{ℕ, List as Bytes, ◌≡◌, MatchOption, IfSome, Contains, map, count_by};
 ghost use Rattle.po_tree.specs.Words.{type_words};
 ghost use Rattle.po_types.specs.declared.ctype.CType.{CType as TypeOf};

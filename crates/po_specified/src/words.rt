@@ -1,3 +1,4 @@
+// Which words stand among specifiers.
 ghost use Rattle.std.specs.Prelude.{ℕ, List as Bytes, ◌≡◌, ◌∷◌, MatchBool, MatchOption, Contains, All, map, codes, count_by, IsTrue, ◌↔◌};
 ghost use Rattle.po_tree.specs.declared.expression.Specifier.TheVariants as sp;
 ghost use Rattle.po_tree.specs.declared.expression.Specifier.{Specifier as SpecifierOf};

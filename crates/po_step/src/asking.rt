@@ -1,3 +1,4 @@
+// The obligations at a node, in the order in which a run checks them.
 ghost use Rattle.std.specs.Prelude.{◌≡◌, ◌++◌, length, IfOk, OnOk};
 ghost use Rattle.po_ir.specs.IntTypes.{AreTypesOfTarget};
 ghost use Rattle.po_meaning.specs.Checks.{asked_at, numbered as numbered_from, primaries as primaries_at};

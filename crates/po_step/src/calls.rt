@@ -1,3 +1,4 @@
+// Calls: arguments passed, and frames begun (C99 6.5.2.2).
 ghost use Rattle.std.specs.Prelude.{◌≡◌, ◌++◌, IfOk, OnOk, MatchOption, Some, None, length, map, replicate, slice_get, take};
 ghost use Rattle.po_ir.specs.Whole.{parameter_types, type_of};
 ghost use Rattle.po_meaning.specs.Operands.{ArePassed};

@@ -1,3 +1,4 @@
+// Instructions carried out.
 ghost use Rattle.std.specs.Prelude.{◌≡◌, IfOk};
 ghost use Rattle.po_ir.specs.declared.instr.Instr.TheVariants as variants;
 ghost use Rattle.po_step.specs.Stepping.{Carries, IsReadyAt, Moved, MovedOrEnded, StaysInFrame, library_of, state_of};

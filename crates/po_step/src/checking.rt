@@ -1,3 +1,4 @@
+// The first obligation at a node that doesn't hold.
 ghost use Rattle.std.specs.Prelude.{◌≡◌, MatchOption};
 ghost use Rattle.po_step.specs.Checking.{AllOf, IsFirstFailing};
 

@@ -1,3 +1,4 @@
+// The trait of what calls of library functions do.
 ghost use Rattle.std.specs.Prelude.{◌≡◌, IfOk, [], List, MatchOption, slice_get};
 ghost use Rattle.po_ir.specs.Whole.{Signature};
 ghost use Rattle.po_ir.specs.declared.project.Project.{Project};

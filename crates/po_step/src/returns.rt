@@ -1,3 +1,4 @@
+// Returns to the frame that waits (C99 6.8.6.4).
 ghost use Rattle.std.specs.Prelude.{◌≡◌, ◌⊎◌, ◌<◌, ◌↔◌, IfOk, IsTrue, Some, [], ◌∷◌, length, reverse};
 ghost use Rattle.po_ir.specs.declared.instr.Ty.TheVariants as kind;
 ghost use Rattle.po_ir.specs.Types.{IsResultType};

@@ -1,3 +1,4 @@
+// One step of a run.
 ghost use Rattle.std.specs.Prelude.{◌≡◌, IfOk};
 ghost use Rattle.po_ir.specs.Whole.{IsWhole};
 ghost use Rattle.po_meaning.specs.Belongs.{Belongs};

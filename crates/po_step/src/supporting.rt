@@ -1,3 +1,4 @@
+// Obligations at a call for what the called function assumes.
 ghost use Rattle.std.specs.Prelude.{◌≡◌, ◌++◌, [], All, Some, OnOk, IfOk, slice_get};
 ghost use Rattle.std.specs.List.{cons_option};
 ghost use Rattle.po_meaning.specs.Checks.{asked_by, supported_by as supported_by_call, supported_in as supported_in_function, supports as supports_at, supports_in};

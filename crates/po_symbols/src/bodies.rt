@@ -1,3 +1,4 @@
+// The files that give bodies to names.
 ghost use Rattle.std.specs.Prelude.{◌≡◌, ◌++◌, ◌&&◌, not, ℕ, List, flat_map, IfOk, OnOk};
 ghost use Rattle.po_symbols.specs.Names.{listed};
 ghost use Rattle.po_symbols.specs.Linking.{bodies};

@@ -1,3 +1,4 @@
+// Why files can't be joined.
 ghost use Rattle.std.specs.Prelude.{◌≡◌, List, IfOk, OnOk};
 ghost use Rattle.std.specs.Result.{IfErr};
 ghost use Rattle.po_ir.specs.declared.unit.Unit.{Unit as UnitOf};

@@ -1,3 +1,4 @@
+// Whether the types that two files give a name clash (C99 6.2.7).
 ghost use Rattle.std.specs.Prelude.{◌≡◌};
 ghost use Rattle.po_symbols.specs.Differing.{follows_bracket};
 ghost use Rattle.po_symbols.specs.Differing as differing;

@@ -1,3 +1,4 @@
+// Causes for which files can't be joined.
 ghost use Rattle.std.specs.Prelude.{◌≡◌};
 ghost use Rattle.po_symbols.specs.declared.link_fail.LinkFail.TheVariants.{Memory as NoMemory};
 

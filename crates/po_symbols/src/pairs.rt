@@ -1,3 +1,4 @@
+// The first pair of files that give a name types which clash.
 ghost use Rattle.std.specs.Prelude.{◌≡◌};
 ghost use Rattle.po_symbols.specs.Pairs.{pair_of, two_of, pair_with, pair_beyond, clash_of};
 

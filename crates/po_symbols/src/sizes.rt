@@ -1,3 +1,4 @@
+// Whether the files together are small enough.
 ghost use Rattle.std.specs.Prelude.{◌≡◌, ◌+◌, sum_by, IfOk, OnOk};
 ghost use Rattle.std.specs.Result.{IfErr};
 ghost use Rattle.po_symbols.specs.Linking.{weight_of, unit_weight, unit_functions, NoCause, Fits, IsRefused};

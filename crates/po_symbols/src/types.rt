@@ -1,3 +1,4 @@
+// The types that files give to names.
 ghost use Rattle.std.specs.Prelude.{◌≡◌, ◌++◌, ℕ, List, false, cond, bytes_eq, IfOk, OnOk};
 ghost use Rattle.po_symbols.specs.Names.{listed};
 ghost use Rattle.po_symbols.specs.Said.{ends_with_file, with_type, typed_in, AreTypes};

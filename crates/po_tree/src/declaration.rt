@@ -1,3 +1,4 @@
+// Declarations and initialisers (C99 6.7, 6.7.8).
 ghost use Rattle.po_tree.specs.DroppingInitialisers.{IsMadeOf};
 
 use crate::dropping_initialisers::drop_initialisers;

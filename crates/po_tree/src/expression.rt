@@ -1,3 +1,4 @@
+// Expressions, specifiers and declarators (C99 6.5, 6.7).
 ghost use Rattle.std.specs.Prelude.{◌≡◌};
 ghost use Rattle.po_tree.specs.declared.expression.Member.{out-Member};
 ghost use Rattle.po_tree.specs.declared.expression.Param.{out-Param};

@@ -1,3 +1,4 @@
+// Function definitions (C99 6.9.1).
 use crate::expression::{Declarator, Specifier};
 use crate::statement::Stmt;
 use po_base::{List, Text};

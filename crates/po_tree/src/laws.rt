@@ -1,3 +1,4 @@
+// Laws of the names in force.
 ghost use Rattle.std.specs.Prelude.{ℕ, ◌↔◌, Contains, List as Items};
 ghost use Rattle.po_tree.specs.declared.declaration.Decl.{Decl as Declaration};
 ghost use Rattle.po_tree.specs.declared.expression.Exp.{Exp as Expression};

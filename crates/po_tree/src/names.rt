@@ -1,3 +1,4 @@
+// The names in force whose kind the grammar asks for, with scopes that open and close (C99 6.2.1).
 ghost use Rattle.std.specs.Prelude.{ℕ, ◌≡◌, ◌↔◌, ◌⊎◌, [], ◌∷◌, ◌++◌, map, IsTrue, Contains, IfOk, OnOk, OnErr, MatchBool, Some};
 ghost use Rattle.po_tree.specs.Declarations.{IsTypedef};
 ghost use Rattle.po_tree.specs.InForce.{outer_of, IsAscending, OpensScope, Closes};

@@ -1,3 +1,4 @@
+// Operators (C99 6.5).
 use po_base::Op;
 
 /// An operator between two operands (C99 6.5.5 to 6.5.14, 6.5.16 and 6.5.17).

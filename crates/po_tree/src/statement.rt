@@ -1,3 +1,4 @@
+// Statements (C99 6.8).
 use crate::declaration::Decl;
 use crate::expression::Exp;
 use po_base::{Boxed, List, Text};

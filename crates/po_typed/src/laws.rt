@@ -1,3 +1,4 @@
+// Laws of typing: each tree has one typing at most.
 ghost use Rattle.po_typed.specs.Founded.{DeclarationsKeepFounded, DefinitionsKeepFounded, FirstIsFounded, ShownIsWellFounded};
 ghost use Rattle.po_typed.specs.Laws.{OneAssignment, OneDefinition, OneFile, OneInitialising, OneNamedType, OneOperand, OnePassing, OneRun, OneSpecified, OneTyping, OneValue};
 

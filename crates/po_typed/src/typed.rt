@@ -1,3 +1,4 @@
+// Function definitions with the types of their expressions.
 use po_base::List;
 use po_tree::FunTree;
 use po_types::CType;

@@ -1,3 +1,4 @@
+// Whether two types are the same.
 ghost use Rattle.std.specs.Prelude.{◌≡◌, ◌↔◌, IsTrue};
 
 use crate::ctype::CType;

@@ -1,3 +1,4 @@
+// Arrays as pointers, and types of declarations that agree (C99 6.3.2.1, 6.2.7).
 ghost use Rattle.std.specs.Prelude.{◌≡◌, IfOk};
 ghost use Rattle.po_types.specs.Types as types;
 

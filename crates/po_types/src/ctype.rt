@@ -1,3 +1,4 @@
+// The types of C (C99 6.2.5).
 ghost use Rattle.std.specs.Prelude.{◌≡◌, IfOk};
 
 use crate::shared::Shared;

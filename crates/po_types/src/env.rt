@@ -1,3 +1,4 @@
+// Environments: what the declarations so far say.
 ghost use Rattle.std.specs.Prelude.{◌≡◌};
 ghost use Rattle.po_types.specs.Environments.{no_declarations};
 ghost use Rattle.po_types.specs.Nesting.{IsWellFounded};

@@ -1,3 +1,4 @@
+// Formats of printf (C99 7.19.6.1).
 ghost use Rattle.std.specs.Prelude.{◌≡◌, ◌≤◌, ◌+◌, ◌↔◌, ◌∷◌, [], codes, ⊤, IsTrue, MatchBool, IfOk, OnOk, ◌++◌, MatchOption, Contains, map, take, drop, length, List as Bytes, Option as Maybe, ℕ};
 ghost use Rattle.std.specs.Option.{option_map};
 ghost use Rattle.std.specs.List.{cons_option};

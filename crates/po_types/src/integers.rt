@@ -1,3 +1,4 @@
+// The integer types of a target, their sizes, promotions and usual conversions (C99 6.2.5, 6.3.1).
 ghost use Rattle.std.specs.Prelude.{◌≡◌, ◌≤◌, ◌<◌};
 ghost use Rattle.po_arith.specs.Types.{IsIntType};
 ghost use Rattle.po_types.specs.Integers as integers;

@@ -1,3 +1,4 @@
+// What a type is: void, an integer, a pointer, an array, a struct or a function.
 ghost use Rattle.std.specs.Prelude.{◌≡◌, ◌↔◌, IsTrue};
 ghost use Rattle.std.specs.Option.{option_copied, option_map};
 ghost use Rattle.po_types.specs.Types as types;

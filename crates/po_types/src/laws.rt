@@ -1,3 +1,4 @@
+// Laws of types: one spelling, one layout, one format, and what conversions keep.
 ghost use Rattle.po_types.specs.Laws.{OneSpelling, OneLayout, OneFormat, PromotionKeeps, CommonIsSymmetric};
 
 /// A type has one spelling at most, so equal types have equal spellings. It does nothing.

@@ -1,3 +1,4 @@
+// Layouts of structs (C99 6.7.2.1).
 ghost use Rattle.std.specs.Prelude.{◌≡◌, ◌≤◌, ◌+◌, ◌^◌, ◌++◌, ◌∷◌, [], ℕ, max, IfOk, MatchOption};
 ghost use Rattle.po_types.specs.Layouts.{IsNext, HasLayout, HasNoLayout};
 

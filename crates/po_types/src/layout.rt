@@ -1,3 +1,4 @@
+// Sizes, alignments and places of members.
 use po_base::List;
 
 /// The size of an object in bytes, and its alignment.

@@ -1,3 +1,4 @@
+// Values on the heap that never change and that many can hold.
 ghost use Rattle.std.specs.Prelude.{◌≡◌, IfOk, IfSome};
 ghost use Rattle.std.specs.Arc.{arc_value};
 

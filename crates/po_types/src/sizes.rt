@@ -1,3 +1,4 @@
+// Sizes and alignments of types (C99 6.5.3.4).
 ghost use Rattle.std.specs.Prelude.{◌≡◌, ◌*◌};
 ghost use Rattle.std.specs.Option.{option_copied};
 ghost use Rattle.po_types.specs.Types as types;

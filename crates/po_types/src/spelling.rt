@@ -1,3 +1,4 @@
+// The spelling of types, by which those of two files are compared.
 ghost use Rattle.std.specs.Prelude.{◌≡◌, ◌++◌, ◌∷◌, [], ◌≤◌, ◌<◌, length, codes, decimal, cond, map, get_or, IfOk, OnOk, MatchOption, IsTrue, ◌↔◌, Option as Maybe, None as Nothing, List as Bytes, ℕ};
 ghost use Rattle.std.specs.Option.{option_copied};
 ghost use Rattle.po_types.specs.declared.ctype.CType.TheVariants as c;

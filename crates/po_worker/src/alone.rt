@@ -1,3 +1,4 @@
+// The rest of a ledger, done by one worker alone.
 ghost use Rattle.std.specs.Prelude.{◌≡◌, ◌<◌, true, false, length, IfOk, OnOk, OnErr};
 ghost use Rattle.po_core.specs.Core.{IsQuiet};
 ghost use Rattle.po_ledger.specs.Hands.{Extends, IsSettledUpTo, SettlesHand};

@@ -1,3 +1,5 @@
+// The trait of what workers pass on their rounds.
+
 /// A moment of a worker's round at which it doesn't hold the lock.
 #[derive(Clone, Copy, Debug, PartialEq, Eq)]
 pub enum Moment {

@@ -1,3 +1,4 @@
+// Calls of a ledger that is locked.
 ghost use Rattle.std.specs.Prelude.{◌≡◌, length, true, false, IfOk, OnErr};
 ghost use Rattle.po_core.specs.Core.{IsHeld};
 ghost use Rattle.po_core.specs.declared.event.Event.TheVariants.{Give};

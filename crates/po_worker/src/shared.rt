@@ -1,3 +1,4 @@
+// A ledger behind a lock.
 use po_core::Rulebook;
 use po_ledger::{Ledger, Naming};
 use std::sync::{Condvar, Mutex};

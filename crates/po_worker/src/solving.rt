@@ -1,3 +1,4 @@
+// The least report of a rulebook, by many workers or alone.
 ghost use Rattle.std.specs.Prelude.{◌≡◌, ◌≤◌, IfOk};
 ghost use Rattle.std.specs.Thread.{IsSend, IsSync};
 ghost use Rattle.po_core.specs.Core.{IsQuiet};

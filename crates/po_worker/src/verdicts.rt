@@ -1,3 +1,4 @@
+// The verdicts of a ticket, worked out without the lock.
 ghost use Rattle.std.specs.Prelude.{◌≡◌, IfOk};
 ghost use Rattle.po_ledger.specs.Calls.{KeepsTicket};
 ghost use Rattle.po_ledger.specs.Hands.{AreVerdicts};

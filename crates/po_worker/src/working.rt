@@ -1,3 +1,4 @@
+// The round of a worker.
 ghost use Rattle.std.specs.Prelude.{◌≡◌, length, true, IfOk, IfSome, IfNone, OnOk};
 ghost use Rattle.po_ledger.specs.Hands.{AreVerdicts, IsSettledUpTo};
 ghost use Rattle.po_worker.specs.Work.{IsToldDone};
