@@ -1,2 +1,3 @@
 pub mod Scopes
 pub mod Looping
+pub mod OnePiece

@@ -3,5 +3,7 @@
 #![tactic(auto)]
 
 mod read;
+mod whole;
 
 pub use read::read_decl_at;
+pub use whole::read_decl;
