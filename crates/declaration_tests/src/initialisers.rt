@@ -1,24 +1,15 @@
-use po_base::{List, Memory, Text, Tokens};
+use crate::texts::{put, tokens_of};
+use po_base::{List, Memory};
 use po_init_read::read_init;
-use po_lex::{LexFail, tokens};
 use po_tree::{Init, InitParts, Names};
 use std::alloc::Global;
 use std::test::Fail;
 
-/// The tokens of a text.
-fn read(alloc: Global, text: &[u8]) -> Result<Tokens, LexFail> {
-    if text.len() > 1 << 24 {
-        return Err(LexFail::TooMany);
-    }
-    let name = Text::new(alloc, b"main.c")?;
-    tokens(alloc, &name, text)
-}
-
 /// The initialiser at the front of a text, and the place of its end.
 fn found(alloc: Global, text: &[u8]) -> Result<Option<(Init, u32)>, Memory> {
-    match read(alloc, text) {
-        Ok(tokens) => read_init(alloc, &tokens, 0, u32::MAX, &Names::new(alloc)),
-        Err(_) => Ok(None),
+    match tokens_of(alloc, text)? {
+        Some(tokens) => read_init(alloc, &tokens, 0, u32::MAX, &Names::new(alloc)),
+        None => Ok(None),
     }
 }
 
@@ -107,16 +98,10 @@ fn nested(
     depth: u32,
 ) -> Result<List<u8>, Memory> {
     let mut out = List::new(alloc);
-    for _ in 0..depth {
-        out.push(opening)?;
-    }
-    for byte in text {
-        out.push(*byte)?;
-    }
-    for _ in 0..depth {
-        out.push(closing)?;
-    }
-    out.push(b';')?;
+    put(&mut out, &[opening], depth)?;
+    put(&mut out, text, 1)?;
+    put(&mut out, &[closing], depth)?;
+    put(&mut out, b";", 1)?;
     Ok(out)
 }
 
