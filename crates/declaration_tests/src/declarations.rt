@@ -1,19 +1,22 @@
 use crate::files::letters;
-use crate::texts::{put, tokens_of};
-use po_base::{List, Memory, Text};
+use crate::texts::{expanded, names, tokens_of};
+use po_base::{Memory, Tokens};
 use po_decl_read::read_decl;
-use po_tree::Names;
 use std::alloc::Global;
 use std::test::Fail;
 
+/// Whether tokens are a declaration, where `T` is a typedef name.
+fn is_one(alloc: Global, tokens: &Tokens) -> Result<bool, Memory> {
+    let found = read_decl(alloc, tokens, 0, u32::MAX, &mut names(alloc)?)?;
+    Ok(found.is_some())
+}
+
 /// Whether a text is a declaration, where `T` is a typedef name.
 fn is_read(alloc: Global, text: &[u8]) -> Result<bool, Memory> {
-    let Some(tokens) = tokens_of(alloc, text)? else {
-        return Ok(false);
-    };
-    let mut names = Names::new(alloc);
-    names.declare_type(&Text::new(alloc, b"T")?)?;
-    Ok(read_decl(alloc, &tokens, 0, u32::MAX, &mut names)?.is_some())
+    match tokens_of(alloc, text)? {
+        Some(tokens) => is_one(alloc, &tokens),
+        None => Ok(false),
+    }
 }
 
 #[test]
@@ -134,45 +137,28 @@ fn names_are_in_force_behind_their_declarators(rt: HostRuntime) -> Result<(), Fa
     Ok(())
 }
 
-/// Whether a text is a declaration in which a part stands so many times before and another as often behind what they enclose.
-fn is_read_nested(
-    alloc: Global,
-    parts: (&[u8], &[u8], &[u8], &[u8], &[u8]),
-    times: u32,
-) -> Result<bool, Memory> {
-    let (front, opening, inside, closing, behind) = parts;
-    let mut text = List::new(alloc);
-    put(&mut text, front, 1)?;
-    put(&mut text, opening, times)?;
-    put(&mut text, inside, 1)?;
-    put(&mut text, closing, times)?;
-    put(&mut text, behind, 1)?;
-    is_read(alloc, text.as_slice())
-}
-
 #[test]
 fn parameters_stars_and_sizes_nest_without_a_limit(rt: HostRuntime) -> Result<(), Fail> {
-    let rows: [(&[u8], &[u8], &[u8], &[u8], &[u8], bool); 6] = [
-        (b"int f", b"(int", b"", b")", b";", true),
-        (b"int f", b"(int", b"", b")", b"", false),
-        (b"int", b"*", b"x", b"", b";", true),
-        (b"int", b"*", b"", b"", b";", false),
-        (b"int x", b"[1]", b"", b"", b";", true),
-        (b"int x", b"[1]", b"[1,2]", b"", b";", false),
+    let rows: [(&[u8], bool); 6] = [
+        (b"int f@(int@@)@;", true),
+        (b"int f@(int@@)@", false),
+        (b"int@*@x;", true),
+        (b"int@*@;", false),
+        (b"int x@[1]@;", true),
+        (b"int x@[1]@[1,2];", false),
     ];
-    for (front, opening, inside, closing, behind, wanted) in rows {
-        let parts = (front, opening, inside, closing, behind);
-        assert!(rt; is_read_nested(rt.alloc(), parts, 1_000_000)? == wanted);
+    for (text, wanted) in rows {
+        let text = expanded(rt.alloc(), text, 1_000_000)?;
+        assert!(rt; is_read(rt.alloc(), text.as_slice())? == wanted);
     }
     Ok(())
 }
 
 #[test]
 fn struct_bodies_nest_without_a_limit(rt: HostRuntime) -> Result<(), Fail> {
-    let rows: [(&[u8], bool); 2] = [(b"int x;", true), (b"int x", false)];
-    for (inside, wanted) in rows {
-        let parts: (&[u8], &[u8], &[u8], &[u8], &[u8]) = (b"", b"struct{", inside, b"}x;", b"");
-        assert!(rt; is_read_nested(rt.alloc(), parts, 800_000)? == wanted);
-    }
+    let whole = expanded(rt.alloc(), b"@struct{@int x;@}x;@", 800_000)?;
+    assert!(rt; is_read(rt.alloc(), whole.as_slice())?);
+    let open = expanded(rt.alloc(), b"@struct{@int x@}x;@", 800_000)?;
+    assert!(rt; !is_read(rt.alloc(), open.as_slice())?);
     Ok(())
 }

@@ -7,20 +7,24 @@ use po_lex::{Piece, ShapeFail, kept, pieces};
 use po_tree::Names;
 use std::alloc::Global;
 
-/// A letter for each piece of a file: `b` where it has a body, `d` where it is a declaration under the names in force behind those before it, else
-/// `-`.
+/// The letter of a piece: `b` where it has a body, `d` where it is a declaration, which is then declared, else `-`.
+fn letter(alloc: Global, tokens: &Tokens, piece: &Piece, names: &mut Names) -> Result<u8, Memory> {
+    if piece.body {
+        return Ok(b'b');
+    }
+    let Some(d) = read_decl(alloc, tokens, piece.from, piece.to, names)? else {
+        return Ok(b'-');
+    };
+    names.declare(alloc, &d)?;
+    Ok(b'd')
+}
+
+/// The letters of pieces, each under the names in force behind those before it.
 fn letters_of(alloc: Global, tokens: &Tokens, list: &[Piece]) -> Result<List<u8>, Memory> {
     let mut names = Names::new(alloc);
     let mut out = List::new(alloc);
     for piece in list {
-        if piece.body {
-            out.push(b'b')?;
-        } else if let Some(d) = read_decl(alloc, tokens, piece.from, piece.to, &mut names)? {
-            names.declare(alloc, &d)?;
-            out.push(b'd')?;
-        } else {
-            out.push(b'-')?;
-        }
+        out.push(letter(alloc, tokens, piece, &mut names)?)?;
     }
     Ok(out)
 }

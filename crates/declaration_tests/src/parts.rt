@@ -1,18 +1,10 @@
-use crate::texts::tokens_of;
-use po_base::{Memory, Text};
+use crate::texts::{names, tokens_of};
+use po_base::Memory;
 use po_decl_parts::{
     Seen, constant_at, enumerators_at, opening_at, sizes_at, specifier_at, stars_at,
 };
-use po_tree::Names;
 use std::alloc::Global;
 use std::test::Fail;
-
-/// The names in force: `T` is a typedef name.
-fn names(alloc: Global) -> Result<Names, Memory> {
-    let mut names = Names::new(alloc);
-    names.declare_type(&Text::new(alloc, b"T")?)?;
-    Ok(names)
-}
 
 /// How many stars stand at the front of a text, and where they end.
 fn stars(alloc: Global, text: &[u8]) -> Result<(usize, u32), Memory> {

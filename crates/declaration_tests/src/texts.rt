@@ -6,6 +6,8 @@ ghost use Rattle.std.specs.Prelude.{◌≤◌, ◌^◌, length, IfOk, IfSome};
 use po_base::List;
 use po_base::{Memory, Text, Tokens};
 use po_lex::{LexFail, tokens};
+#[cfg(test)]
+use po_tree::Names;
 use std::alloc::Global;
 
 /// The tokens of a text of a file; none where it has none.
@@ -24,11 +26,32 @@ pub(crate) fn tokens_of(alloc: Global, text: &[u8]) -> Result<Option<Tokens>, Me
 
 /// Puts a text at the end, so many times.
 #[cfg(test)]
-pub(crate) fn put(out: &mut List<u8>, text: &[u8], times: u32) -> Result<(), Memory> {
+fn put(out: &mut List<u8>, text: &[u8], times: u32) -> Result<(), Memory> {
     for _ in 0..times {
         for byte in text {
             out.push(*byte)?;
         }
     }
     Ok(())
+}
+
+/// A text in which each second part between `@` stands so many times.
+#[cfg(test)]
+pub(crate) fn expanded(alloc: Global, text: &[u8], times: u32) -> Result<List<u8>, Memory> {
+    let mut out = List::new(alloc);
+    let mut repeated = false;
+    for part in text.split(|byte| *byte == b'@') {
+        let count = if repeated { times } else { 1 };
+        put(&mut out, part, count)?;
+        repeated = !repeated;
+    }
+    Ok(out)
+}
+
+/// The names in force where `T` is a typedef name.
+#[cfg(test)]
+pub(crate) fn names(alloc: Global) -> Result<Names, Memory> {
+    let mut names = Names::new(alloc);
+    names.declare_type(&Text::new(alloc, b"T")?)?;
+    Ok(names)
 }
