@@ -1,24 +1,15 @@
-use po_base::{List, Memory, Text, Tokens};
+use crate::texts::{expanded, tokens_of};
+use po_base::{List, Memory};
 use po_init_read::read_init;
-use po_lex::{LexFail, tokens};
 use po_tree::{Init, InitParts, Names};
 use std::alloc::Global;
 use std::test::Fail;
 
-/// The tokens of a text.
-fn read(alloc: Global, text: &[u8]) -> Result<Tokens, LexFail> {
-    if text.len() > 1 << 24 {
-        return Err(LexFail::TooMany);
-    }
-    let name = Text::new(alloc, b"main.c")?;
-    tokens(alloc, &name, text)
-}
-
 /// The initialiser at the front of a text, and the place of its end.
 fn found(alloc: Global, text: &[u8]) -> Result<Option<(Init, u32)>, Memory> {
-    match read(alloc, text) {
-        Ok(tokens) => read_init(alloc, &tokens, 0, u32::MAX, &Names::new(alloc)),
-        Err(_) => Ok(None),
+    match tokens_of(alloc, text)? {
+        Some(tokens) => read_init(alloc, &tokens, 0, u32::MAX, &Names::new(alloc)),
+        None => Ok(None),
     }
 }
 
@@ -98,42 +89,20 @@ fn no_initialiser_stands_where_the_grammar_has_none(rt: HostRuntime) -> Result<(
     Ok(())
 }
 
-/// A text between so many pairs of brackets, with a semicolon behind.
-fn nested(
-    alloc: Global,
-    opening: u8,
-    text: &[u8],
-    closing: u8,
-    depth: u32,
-) -> Result<List<u8>, Memory> {
-    let mut out = List::new(alloc);
-    for _ in 0..depth {
-        out.push(opening)?;
-    }
-    for byte in text {
-        out.push(*byte)?;
-    }
-    for _ in 0..depth {
-        out.push(closing)?;
-    }
-    out.push(b';')?;
-    Ok(out)
-}
-
 #[test]
 fn a_million_braces_are_read_and_let_go(rt: HostRuntime) -> Result<(), Fail> {
-    let text = nested(rt.alloc(), b'{', b"1", b'}', 1_000_000)?;
+    let text = expanded(rt.alloc(), b"@{@1@}@;", 1_000_000)?;
     assert!(rt; is_read(rt.alloc(), text.as_slice(), b"{1}", 2_000_001)?);
-    let open = nested(rt.alloc(), b'{', b"{1,2}", b')', 1_000_000)?;
+    let open = expanded(rt.alloc(), b"@{@{1,2}@)@;", 1_000_000)?;
     assert!(rt; found(rt.alloc(), open.as_slice())?.is_none());
     Ok(())
 }
 
 #[test]
 fn expressions_are_read_to_the_depth_of_256(rt: HostRuntime) -> Result<(), Fail> {
-    let deepest = nested(rt.alloc(), b'(', b"1", b')', 255)?;
+    let deepest = expanded(rt.alloc(), b"@(@1@)@;", 255)?;
     assert!(rt; is_read(rt.alloc(), deepest.as_slice(), b"x", 511)?);
-    let deeper = nested(rt.alloc(), b'(', b"1", b')', 256)?;
+    let deeper = expanded(rt.alloc(), b"@(@1@)@;", 256)?;
     assert!(rt; found(rt.alloc(), deeper.as_slice())?.is_none());
     Ok(())
 }

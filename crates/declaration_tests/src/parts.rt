@@ -1,34 +1,14 @@
-use po_base::{Memory, Text, Tokens};
+use crate::texts::{names, tokens_of};
+use po_base::Memory;
 use po_decl_parts::{
     Seen, constant_at, enumerators_at, opening_at, sizes_at, specifier_at, stars_at,
 };
-use po_lex::{LexFail, tokens};
-use po_tree::Names;
 use std::alloc::Global;
 use std::test::Fail;
 
-/// The tokens of a short text; none where it has none.
-fn read(alloc: Global, text: &[u8]) -> Result<Option<Tokens>, Memory> {
-    if text.len() > 1000 {
-        return Ok(None);
-    }
-    match tokens(alloc, &Text::new(alloc, b"t.c")?, text) {
-        Ok(found) => Ok(Some(found)),
-        Err(LexFail::Memory) => Err(Memory),
-        Err(_) => Ok(None),
-    }
-}
-
-/// The names in force: `T` is a typedef name.
-fn names(alloc: Global) -> Result<Names, Memory> {
-    let mut names = Names::new(alloc);
-    names.declare_type(&Text::new(alloc, b"T")?)?;
-    Ok(names)
-}
-
 /// How many stars stand at the front of a text, and where they end.
 fn stars(alloc: Global, text: &[u8]) -> Result<(usize, u32), Memory> {
-    let Some(tokens) = read(alloc, text)? else {
+    let Some(tokens) = tokens_of(alloc, text)? else {
         return Ok((0, u32::MAX));
     };
     let (stars, end) = stars_at(alloc, &tokens, 0, u32::MAX)?;
@@ -54,7 +34,7 @@ fn all_stars_with_all_their_qualifiers_are_read(rt: HostRuntime) -> Result<(), F
 
 /// Where the constant at the front of a text ends.
 fn constant(alloc: Global, text: &[u8]) -> Result<Option<u32>, Memory> {
-    let Some(tokens) = read(alloc, text)? else {
+    let Some(tokens) = tokens_of(alloc, text)? else {
         return Ok(None);
     };
     match constant_at(alloc, &tokens, 0, u32::MAX, &names(alloc)?)? {
@@ -82,7 +62,7 @@ fn a_constant_is_a_conditional_expression_before_an_end(rt: HostRuntime) -> Resu
 
 /// How many sizes stand at the front of a text, and where they end.
 fn sizes(alloc: Global, text: &[u8]) -> Result<Option<(usize, u32)>, Memory> {
-    let Some(tokens) = read(alloc, text)? else {
+    let Some(tokens) = tokens_of(alloc, text)? else {
         return Ok(None);
     };
     match sizes_at(alloc, &tokens, 0, u32::MAX, &names(alloc)?)? {
@@ -111,7 +91,7 @@ fn all_sizes_are_read(rt: HostRuntime) -> Result<(), Fail> {
 
 /// How many enumerators stand at the front of a text, whether a comma stands behind the last, and where their brace ends.
 fn enumerators(alloc: Global, text: &[u8]) -> Result<Option<(usize, bool, u32)>, Memory> {
-    let Some(tokens) = read(alloc, text)? else {
+    let Some(tokens) = tokens_of(alloc, text)? else {
         return Ok(None);
     };
     match enumerators_at(alloc, &tokens, 0, u32::MAX, &mut names(alloc)?)? {
@@ -147,7 +127,7 @@ fn specifier(
     free: bool,
     seen: Seen,
 ) -> Result<Option<u32>, Memory> {
-    let Some(tokens) = read(alloc, text)? else {
+    let Some(tokens) = tokens_of(alloc, text)? else {
         return Ok(None);
     };
     let names = &mut names(alloc)?;
@@ -189,7 +169,7 @@ fn a_specifier_stands_behind_those_that_it_may_follow(rt: HostRuntime) -> Result
 
 /// Where the beginning of a struct's body at the front of a text ends, and whether it has a tag.
 fn opening(alloc: Global, text: &[u8]) -> Result<Option<(bool, u32)>, Memory> {
-    let Some(tokens) = read(alloc, text)? else {
+    let Some(tokens) = tokens_of(alloc, text)? else {
         return Ok(None);
     };
     match opening_at(&tokens, 0, u32::MAX)? {
