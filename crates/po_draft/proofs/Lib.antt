@@ -1,4 +1,4 @@
 pub mod Kept
 pub mod Least
-pub mod Filled
 pub mod Making
+pub mod Waits

@@ -1,5 +1,5 @@
 -- A label gets its node in one node after the other.
-use Rattle.std.specs.Prelude.{ℕ, ◌≤◌, ◌<◌, ◌≡◌, ◌≢◌, List, length, Option, Some, None, slice_get}
+use Rattle.std.specs.Prelude.{ℕ, ◌≡◌, ◌≢◌, List, length, Option, Some, None, slice_get}
 use Rattle.po_ir.specs.declared.instr.Instr.{Instr}
 use Rattle.po_ir.specs.declared.graph.Node.{Node}
 use Rattle.po_draft.specs.Sketches.{at_label, resolve, resolved}
@@ -13,11 +13,3 @@ pub record IsFilledAt (i label place : ℕ) (old new : List Node) : Type 0 where
   pub same_length : length new ≡ length old
   pub others : (j : ℕ) → j ≢ i → slice_get new j ≡ slice_get old j
   pub filled : (m : Node) → slice_get old i ≡ Some m → slice_get new i ≡ Some (resolved (at_label label place) m)
-
--- the same, for the nodes below i
-pub record IsFilledTo (from i label place : ℕ) (old new : List Node) : Type 0 where
-  pub same_length : length new ≡ length old
-  pub start : from ≤ i
-  pub before : (j : ℕ) → j < from → slice_get new j ≡ slice_get old j
-  pub filled : (j : ℕ) (m : Node) → from ≤ j → j < i → slice_get old j ≡ Some m → slice_get new j ≡ Some (resolved (at_label label place) m)
-  pub behind : (j : ℕ) → i ≤ j → slice_get new j ≡ slice_get old j

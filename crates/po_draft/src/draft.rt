@@ -1,12 +1,11 @@
 // A graph while it is made.
-ghost use Rattle.std.specs.Prelude.{◌≡◌, ◌+◌, ◌<◌, ◌++◌, ◌∷◌, [], length, IfOk, OnOk};
+ghost use Rattle.std.specs.Prelude.{◌≡◌, ◌+◌, ◌<◌, ◌≤◌, ◌++◌, ◌∷◌, [], length, IfOk, OnOk};
 ghost use Rattle.po_lowering.specs.Temporaries.{Takes, fresh, type_in};
 ghost use Rattle.po_lowering.specs.Statements.{one_more_declared, with_label, with_case, with_default};
 ghost use Rattle.po_draft.specs.Sketches.{begun, with_node, first_label, IsFilled};
 
-use crate::filling::fill;
+use crate::nodes::Nodes;
 use crate::registers::Registers;
-use crate::vectors::push;
 use po_base::{List, Memory, NodeNo, RegNo, Spot, Text};
 use po_ir::{Instr, Node, Reg, Ty};
 use std::alloc::Global;
@@ -18,7 +17,7 @@ use std::marker::Model;
 /// place. After `Memory` a draft is to be given up.
 #[derive(Drop)]
 pub struct Draft {
-    nodes: Vec<Node>,
+    nodes: Nodes,
     registers: Registers,
     texts: List<Text>,
     declared: usize,
@@ -32,7 +31,7 @@ impl Model for Draft {
 
     ghost Value = { Sketch };
 
-    ghost view = { λ d. record { nodes = d.nodes.items; state = record { regs = d.registers.regs; taken = d.registers.taken; texts = d.texts; declared = d.declared; labels = d.labels; cases = d.cases; default_case = d.default_case } } };
+    ghost view = { λ d. record { nodes = d.nodes; state = record { regs = d.registers.regs; taken = d.registers.taken; texts = d.texts; declared = d.declared; labels = d.labels; cases = d.cases; default_case = d.default_case } } };
 }
 
 /// The cases of a switch with their nodes, in their order, and its default's node.
@@ -67,7 +66,7 @@ impl Draft {
         ensures { result ≡ begun [] }
     {
         Draft {
-            nodes: Vec::new(alloc),
+            nodes: Nodes::new(alloc),
             registers: Registers::new(alloc),
             texts: List::new(alloc),
             declared: 0,
@@ -103,7 +102,7 @@ impl Draft {
             instr,
             spot: same_spot(spot)?,
         };
-        push(&mut self.nodes, node)
+        self.nodes.push(node)
     }
 
     /// Takes a temporary for a value: the least one of the type that the present full expression hasn't taken, and a new one where there is
@@ -208,12 +207,15 @@ impl Draft {
         }
     }
 
-    /// A label stands for a node, in each node from a place on. In time linear in the nodes from there on; it takes no memory.
+    /// A label stands for a node, in each node from a place on. In time linear in the number of nodes that wait for the label from there on; it
+    /// takes no memory.
     pub fn fill(&mut self, from: NodeNo, label: NodeNo, place: NodeNo)
+        requires label { first_label ≤ label.0 }
+        requires place { place.0 < first_label }
         ensures nodes { IsFilled from.0 label.0 place.0 self.old.nodes self.new.nodes }
         ensures state { self.new.state ≡ self.old.state }
     {
-        fill(&mut self.nodes, from, label, place);
+        self.nodes.fill(from, label, place);
     }
 
     /// What was made.
@@ -221,7 +223,7 @@ impl Draft {
         ensures { (result.nodes ≡ self.nodes) × (result.regs ≡ self.state.regs) × (result.texts ≡ self.state.texts) }
     {
         Parts {
-            nodes: List::from_vec(self.nodes),
+            nodes: self.nodes.into_list(),
             regs: self.registers.into_list(),
             texts: self.texts,
         }

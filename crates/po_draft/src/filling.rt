@@ -1,9 +1,12 @@
 // Labels, and how nodes are put in their places.
-ghost use Rattle.std.specs.Prelude.{◌≡◌, ◌<◌, length};
-ghost use Rattle.po_draft.specs.Sketches.{at_label, IsFilled};
+ghost use Rattle.std.specs.Prelude.{ℕ, ◌≡◌, ◌≢◌, length, Some, slice_get, Contains};
+ghost use Rattle.po_ir.specs.declared.graph.Node.{Node as Made};
+ghost use Rattle.po_draft.specs.Sketches.{at_label};
 ghost use Rattle.po_draft.specs.Filling.{Settles, IsFilledAt};
+ghost use Rattle.po_draft.specs.Waiting.{GoesTo, IsRising, AreFilled};
 
-use po_base::NodeNo;
+use crate::waiting::take_last;
+use po_base::{List, NodeNo};
 use po_ir::{Instr, Node};
 
 /// From here on the number of a node is a label: it stands for a node that isn't known yet. A draft has fewer nodes.
@@ -46,23 +49,32 @@ fn settled_instr(instr: &Instr, label: NodeNo, place: NodeNo) -> Option<Instr>
     }
 }
 
-/// Puts a node in the label's place at one node.
+/// Puts a node in the label's place at one node, where there is one.
 fn fill_at(nodes: &mut Vec<Node>, i: usize, label: NodeNo, place: NodeNo)
-    requires { i < length nodes.old.items }
     ensures { IsFilledAt i label.0 place.0 nodes.old.items nodes.new.items }
 {
+    if i >= nodes.len() {
+        return;
+    }
     if let Some(instr) = settled_instr(&nodes[i].instr, label, place) {
         nodes[i].instr = instr;
     }
 }
 
-/// Puts a node in the label's place in each node from a place on.
-pub(crate) fn fill(nodes: &mut Vec<Node>, from: NodeNo, label: NodeNo, place: NodeNo)
-    ensures { IsFilled from.0 label.0 place.0 nodes.old.items nodes.new.items }
+/// Puts a node in the label's place in those of the waiting nodes that stand from a place on. The others are left.
+pub(crate) fn fill_waiting(
+    nodes: &mut Vec<Node>,
+    waiting: &mut List<usize>,
+    from: usize,
+    label: NodeNo,
+    place: NodeNo,
+)
+    requires different { place.0 ≢ label.0 }
+    requires all { (i : ℕ) (m : Made) → slice_get nodes.old.items i ≡ Some m → GoesTo m.instr label.0 → Contains waiting.old i }
+    requires rising { IsRising (length nodes.old.items) waiting.old }
+    ensures { AreFilled from label.0 place.0 nodes.old.items nodes.new.items waiting.new }
 {
-    let mut i = from.0 as usize;
-    while i < nodes.len() {
+    while let Some(i) = take_last(waiting, from) {
         fill_at(nodes, i, label, place);
-        i += 1;
     }
 }

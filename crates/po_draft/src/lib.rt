@@ -3,8 +3,10 @@
 
 mod draft;
 mod filling;
+mod nodes;
 mod registers;
 mod vectors;
+mod waiting;
 
 pub use draft::{Cases, Draft, Parts};
 pub use filling::FIRST_LABEL;
