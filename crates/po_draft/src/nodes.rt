@@ -1,3 +1,4 @@
+// The nodes of a draft, with those that wait for each label.
 ghost use Rattle.std.specs.Prelude.{◌≡◌, ◌<◌, ◌≤◌, ◌++◌, ◌∷◌, [], length, OnOk, OnErr};
 ghost use Rattle.po_draft.specs.Sketches.{first_label, IsFilled};
 

@@ -1,3 +1,4 @@
+// What waits for each label.
 ghost use Rattle.std.specs.Prelude.{ℕ, ◌≡◌, ◌+◌, ◌<◌, ◌≤◌, ◌++◌, ◌∷◌, [], length, Contains, OnOk, MatchOption};
 ghost use Rattle.po_draft.specs.Sketches.{first_label};
 ghost use Rattle.po_draft.specs.Waiting.{IsWaiting, AreBelow, IsRising, KeepsWaiting, kept_for};

@@ -1,3 +1,4 @@
+// Entries of a scope, found by their names.
 ghost use Rattle.std.specs.Prelude.{◌≡◌, ◌-◌, ◌++◌, ◌∷◌, [], length, take, Some, IfOk, OnOk, OnErr};
 ghost use Rattle.po_types.specs.Tables.{found as number_of};
 ghost use Rattle.po_lower_names.specs.Indexed.{last_of as last, AreNumbered, IsIndexed, KeepsIndex, AddsToIndex, TakesFromIndex};

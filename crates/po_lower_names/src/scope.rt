@@ -1,3 +1,4 @@
+// The variables that are in scope while a function is lowered (C99 6.2.1p4).
 ghost use Rattle.std.specs.Prelude.{◌≡◌, ◌++◌, ◌∷◌, [], length, take, OnOk, OnErr};
 ghost use Rattle.po_lowering.specs.Naming.{found as variable_found};
 
