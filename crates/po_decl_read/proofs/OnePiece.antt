@@ -36,7 +36,7 @@ whole_is types signs left d s q = record {
 -- where a declaration stands before something, there is none
 pub none_longer : (types : List (List ℕ)) (signs left : List Sign) (d e : Decl) →
     ((types behind after : List (List ℕ)) (d e : Decl) (left rest : List Sign) → Declared types d behind → Declared types e after → decl_height d ≤ 256 → decl_height e ≤ 256 →
-        flat_decl d ++ left ≡ flat_decl e ++ rest → (d ≡ e) × (behind ≡ after) × (left ≡ rest)) →
+    flat_decl d ++ left ≡ flat_decl e ++ rest → (d ≡ e) × (behind ≡ after) × (left ≡ rest)) →
     (signs ≡ semicolon ∷ [] → ⊥) → DeclarationStands types signs d left → (left ≡ [] → ⊥) → PieceIs types signs e → ⊥
 none_longer types signs left d e one other s some p =
     let w = stands_whole types signs e other p in
