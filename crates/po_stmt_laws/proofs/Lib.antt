@@ -1,0 +1,5 @@
+pub mod Layers
+pub mod Once
+pub mod Items
+pub mod Flat
+pub mod ReadingOn
