@@ -1,0 +1,4 @@
+//! The head of a function definition (C99 6.9.1).
+#![tactic(auto)]
+
+mod braces;
