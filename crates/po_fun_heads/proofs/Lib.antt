@@ -1,2 +1,4 @@
 pub mod Following
 pub mod FollowingInTrees
+pub mod Hiding
+pub mod AsDeclarations

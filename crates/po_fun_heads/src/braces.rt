@@ -54,6 +54,7 @@ pub(crate) fn head_tokens(
 ) -> Result<Option<(List<Token>, u32)>, Memory>
     ensures found { IfOk result (λ found. IfSome found (λ p. OpensBody (signs_between tokens.now.list from to) (map sign_of p.0) (signs_between tokens.now.list p.1 to))) }
     ensures within { IfOk result (λ found. IfSome found (λ p. (from < p.1) × (p.1 ≤ to) × (p.1 ≤ length tokens.now.list))) }
+    ensures counted { IfOk result (λ found. IfSome found (λ p. p.1 ≡ length p.0 + 1 + from)) }
     ensures none { IfOk result (λ found. IfNone found ((head : _) (left : _) → OpensBody (signs_between tokens.now.list from to) head left → ⊥)) }
 {
     let mut head = List::new(alloc);

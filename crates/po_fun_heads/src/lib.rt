@@ -2,3 +2,7 @@
 #![tactic(auto)]
 
 mod braces;
+mod heads;
+mod scopes;
+
+pub use heads::Head;
