@@ -1,5 +1,5 @@
 -- A head with a semicolon behind it is a declaration of one declarator without an initialiser, and the reverse.
-use Rattle.std.proofs.Common.{◌≡◌, ◌∙◌, ℕ, ◌≤◌, ◌<◌, ◌+◌, Bool, true, false, List, [], ◌∷◌, ◌++◌, map, flat_map, length, drop, take, cond, zero, suc, sym, subst, ap, refl, ◌⊎◌, inl, inr, Some, None, arith, codes, append_assoc, append-nil}
+use Rattle.std.proofs.Common.{◌≡◌, ◌∙◌, ℕ, ◌≤◌, ◌<◌, ◌+◌, Bool, true, false, List, [], ◌∷◌, ◌++◌, map, flat_map, length, drop, take, cond, zero, suc, sym, subst, ap, get_or, refl, ◌⊎◌, inl, inr, Some, None, arith, codes, append_assoc, append-nil}
 use Rattle.std.specs.Prelude.{Contains, Option}
 use Rattle.std.proofs.lemmas.List.{append_cancel_right, take_all, length-take, length_push, map-append}
 use Rattle.po_base.specs.declared.token.Token.{Token}
@@ -24,7 +24,7 @@ use Rattle.po_decl_laws.proofs.One.{declarator_named, some_same}
 use Rattle.po_decl_laws.proofs.OneDeclaration.{one_declared}
 use Rattle.po_decl_steps.specs.Standing.{DeclarationStands}
 use Rattle.po_fun_heads.specs.Braces.{is_word, BracesFollow, ends_in_word, OpensBody}
-use Rattle.po_fun_heads.specs.Heads.{IsHead, head, HeadStands}
+use Rattle.po_fun_heads.specs.Heads.{function_declarator, as_declaration, IsHead, head, HeadStands}
 use Rattle.po_fun_heads.proofs.Following.{follow-append, one_opening}
 use Rattle.po_fun_heads.proofs.FollowingInTrees.{specifier_follows, declarator_follows}
 
@@ -65,9 +65,6 @@ behind_word {own = own} name w = elim (decide_typedef w) [
 ]
 
 -- the declaration that a head is
-
-abbrev pub as_declaration : List Specifier → Declarator → Decl
-as_declaration specs d = record { specs = specs; parts = (d, None) ∷ [] }
 
 abbrev pub head_signs : List Specifier → Declarator → List Sign
 head_signs specs d = flat_map flat_specifier specs ++ flat_declarator d
@@ -120,9 +117,6 @@ head_opens {left = left} {specs = specs} {d = d} h = record {
 
 -- a declaration of one declarator with parameters is a head
 
-abbrev function_declarator : List (List (List ℕ)) → List ℕ → List Param → Bool → Declarator
-function_declarator stars name params more = record { stars = stars; name = Some name; suffix = su.Params params more }
-
 of_declared : {types behind : List (List ℕ)} {specs : List Specifier} {d : Declarator} (stars : List (List (List ℕ))) (name : List ℕ) (params : List Param) (more : Bool) →
     Declared types (as_declaration specs d) behind → d ≡ function_declarator stars name params more → (inside : List (List ℕ)) × IsHead types specs d inside
 of_declared {types} {d = d} stars name params more (declared types' own final seen spec specs parts w (part own' inner mid final' name' d' rest is declares v)) q =
@@ -142,21 +136,58 @@ head_of_declaration {hs = hs} {left = left} {specs = specs} {d = d} stars name p
       printed = o.parted ∙ ap (λ v. v ++ (brace ∷ left)) same ∙ append_assoc (flat_map flat_specifier specs) (flat_declarator d) (brace ∷ left);
     })
 
--- whatever head stands there is the one that was read as a declaration
-pub read_same : {types : List (List ℕ)} {signs hs left rest us : List Sign} {specs : List Specifier} {d : Declarator} {inside : List (List ℕ)} {read : Decl} → OpensBody signs hs left →
-    DeclarationStands types (hs ++ semicolon ∷ []) read us → HeadStands types signs specs d inside rest → (read ≡ as_declaration specs d) × (us ≡ [])
-read_same {signs = signs} {hs = hs} {left = left} {rest = rest} {us = us} {specs = specs} {d = d} o w h =
-    let same = one_opening signs hs left (head_signs specs d) rest o (head_opens h) in
-    let a = head_declared h in
-    let r = one_declared w.formed a.formed w.nested a.nested us [] (sym w.printed ∙ ap (λ v. v ++ semicolon ∷ []) same.0 ∙ a.printed) in
-    (r.trees_same, r.left_same)
+-- the declarator of a head has parameters
+pub record IsFunctionDeclarator (d : Declarator) : Type 0 where
+  pub stars : List (List (List ℕ))
+  pub name : List ℕ
+  pub params : List Param
+  pub more : Bool
+  pub is : d ≡ function_declarator stars name params more
 
--- so it is none where none was read
-pub none_read : {types : List (List ℕ)} {signs hs left rest : List Sign} {specs : List Specifier} {d : Declarator} {inside : List (List ℕ)} → OpensBody signs hs left →
-    ((e : Decl) → DeclarationStands types (hs ++ semicolon ∷ []) e [] → ⊥) → HeadStands types signs specs d inside rest → ⊥
-none_read {types = types} {signs = signs} {hs = hs} {left = left} {rest = rest} {specs = specs} {d = d} o none h =
+pub head_declarator : {types : List (List ℕ)} {specs : List Specifier} {d : Declarator} {inside : List (List ℕ)} → IsHead types specs d inside → IsFunctionDeclarator d
+head_declarator (head own inner seen spec specs name stars params more w is) = record { stars = stars; name = name; params = params; more = more; is = refl }
+
+-- no declaration of one declarator with parameters, and nothing else
+abbrev pub NoneRead : List (List ℕ) → List Sign → Type 0
+NoneRead types signs = (specs : List Specifier) (stars : List (List (List ℕ))) (name : List ℕ) (params : List Param) (more : Bool) →
+    DeclarationStands types signs (as_declaration specs (function_declarator stars name params more)) [] → ⊥
+
+-- so no head stands where none was read
+pub none_read : {types : List (List ℕ)} {signs hs left : List Sign} → OpensBody signs hs left → NoneRead types (hs ++ semicolon ∷ []) →
+    (specs : List Specifier) (d : Declarator) (inside : List (List ℕ)) (rest : List Sign) → HeadStands types signs specs d inside rest → ⊥
+none_read {types} {signs} {hs} {left} o none specs d inside rest h =
     let same = one_opening signs hs left (head_signs specs d) rest o (head_opens h) in
-    none (as_declaration specs d) (subst (λ v. DeclarationStands types (v ++ semicolon ∷ []) (as_declaration specs d) []) (sym same.0) (head_declared h))
+    let f = head_declarator h.formed in
+    let w = subst (λ v. DeclarationStands types (v ++ semicolon ∷ []) (as_declaration specs d) []) (sym same.0) (head_declared h) in
+    none specs f.stars f.name f.params f.more (subst (λ v. DeclarationStands types (hs ++ semicolon ∷ []) (as_declaration specs v) []) f.is w)
+
+-- no head stands where no body opens
+pub none_opens : {types : List (List ℕ)} {signs : List Sign} → ((hs left : List Sign) → OpensBody signs hs left → ⊥) →
+    (specs : List Specifier) (d : Declarator) (inside : List (List ℕ)) (rest : List Sign) → HeadStands types signs specs d inside rest → ⊥
+none_opens none specs d inside rest h = none (head_signs specs d) rest (head_opens h)
+
+-- one declaration, nothing left behind it, is the one that was read
+pub one_whole : {types : List (List ℕ)} {signs : List Sign} {d e : Decl} → DeclarationStands types signs d [] → DeclarationStands types signs e [] → d ≡ e
+one_whole w v = (one_declared w.formed v.formed w.nested v.nested [] [] (sym w.printed ∙ v.printed)).trees_same
+
+same_part : {d e : Declarator} → ◌≡◌ {A = List (Declarator × Option Init)} ((d, None) ∷ []) ((e, None) ∷ []) → d ≡ e
+same_part {d} q = ap (λ (v : List (Declarator × Option Init)). (get_or v 0 (d, None)).0) q
+
+-- what was read has more or other parts
+pub other_parts : {types : List (List ℕ)} {signs : List Sign} {e : Decl} → DeclarationStands types signs e [] → ((d : Declarator) → e.parts ≡ (d, None) ∷ [] → ⊥) → NoneRead types signs
+other_parts w none specs stars name params more v = none (function_declarator stars name params more) (ap (λ (z : Decl). z.parts) (one_whole w v))
+
+-- or a declarator without parameters
+pub no_function : {types : List (List ℕ)} {signs : List Sign} {e : Decl} {d : Declarator} → DeclarationStands types signs e [] → e.parts ≡ (d, None) ∷ [] →
+    ((stars : List (List (List ℕ))) (name : List ℕ) (params : List Param) (more : Bool) → d ≡ function_declarator stars name params more → ⊥) → NoneRead types signs
+no_function w parts none specs stars name params more v = none stars name params more (same_part (sym parts ∙ ap (λ (z : Decl). z.parts) (one_whole w v)))
+
+-- or just that
+pub function_read : {types : List (List ℕ)} {signs : List Sign} {specs : List Specifier} {parts : List (Declarator × Option Init)} {d : Declarator} (stars : List (List (List ℕ))) (name : List ℕ) (params : List Param) (more : Bool) →
+    DeclarationStands types signs (record { specs = specs; parts = parts }) [] → parts ≡ (d, None) ∷ [] → d ≡ function_declarator stars name params more →
+    DeclarationStands types signs (as_declaration specs (function_declarator stars name params more)) []
+function_read {types} {signs} {specs} stars name params more w parts q =
+    subst (λ v. DeclarationStands types signs (as_declaration specs v) []) q (subst (λ v. DeclarationStands types signs (record { specs = specs; parts = v }) []) parts w)
 
 -- all tokens of a list, with a semicolon behind them
 

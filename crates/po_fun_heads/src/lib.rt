@@ -3,6 +3,8 @@
 
 mod braces;
 mod heads;
+mod laws;
 mod scopes;
 
-pub use heads::Head;
+pub use heads::{Head, read_head};
+pub use laws::heads_are_one;
