@@ -4,3 +4,4 @@ pub mod Hiding
 pub mod AsDeclarations
 pub mod InsideHeads
 pub mod OneHead
+pub mod Marking
