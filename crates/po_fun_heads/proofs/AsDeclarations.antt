@@ -129,12 +129,14 @@ pub head_of_declaration : {types : List (List ℕ)} {signs hs left : List Sign} 
     (inside : List (List ℕ)) × HeadStands types signs specs d inside left
 head_of_declaration {hs = hs} {left = left} {specs = specs} {d = d} stars name params more o w q =
     let h = of_declared stars name params more w.formed q in
-    let same : hs ≡ head_signs specs d = append_cancel_right hs (head_signs specs d) (semicolon ∷ []) (w.printed ∙ append-nil (flat_decl (as_declaration specs d)) ∙ printed_as specs d) in
-    (h.0, record {
-      formed = h.1;
-      nested = omega (arith, w.nested);
-      printed = o.parted ∙ ap (λ v. v ++ (brace ∷ left)) same ∙ append_assoc (flat_map flat_specifier specs) (flat_declarator d) (brace ∷ left);
-    })
+    let same : hs ≡ head_signs specs d = append_cancel_right hs (head_signs specs d) (semicolon ∷ []) (w.printed ∙ append-nil (flat_decl (as_declaration specs d)) ∙ printed_as specs d) in (
+      h.0,
+      record {
+        formed = h.1;
+        nested = omega (arith, w.nested);
+        printed = o.parted ∙ ap (λ v. v ++ (brace ∷ left)) same ∙ append_assoc (flat_map flat_specifier specs) (flat_declarator d) (brace ∷ left);
+      },
+    )
 
 -- the declarator of a head has parameters
 pub record IsFunctionDeclarator (d : Declarator) : Type 0 where
