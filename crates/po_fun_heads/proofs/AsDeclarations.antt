@@ -11,7 +11,7 @@ use Rattle.po_tree.specs.declared.expression.Param.{Param}
 use Rattle.po_tree.specs.declared.declaration.Init.{Init}
 use Rattle.po_tree.specs.declared.declaration.Decl.{Decl}
 use Rattle.po_tree.specs.Signs.{Sign, sign_of, word, brace, closing, comma, dots, semicolon}
-use Rattle.po_tree.specs.Printing.{flat_specifier, flat_suffix, flat_declarator, flat_part, flat_decl, prints_star, with_commas}
+use Rattle.po_tree.specs.Printing.{flat_specifier, flat_suffix, flat_declarator, flat_decl, prints_star, with_commas}
 use Rattle.po_tree.specs.Heights.{decl_height}
 use Rattle.po_tree.specs.Expressions.{Typed}
 use Rattle.po_tree.specs.Declarations as de

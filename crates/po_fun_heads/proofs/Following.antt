@@ -1,5 +1,5 @@
 -- Braces behind words, in lists one behind the other, and that a body opens at one place at most.
-use Rattle.std.proofs.Common.{◌≡◌, ◌∙◌, ℕ, Bool, true, false, List, [], ◌∷◌, ◌++◌, drop, map, refl, sym, ap, subst, append_assoc, append-nil, IsTrue, ◌↔◌, true≢false}
+use Rattle.std.proofs.Common.{◌≡◌, ◌∙◌, Bool, true, false, List, [], ◌∷◌, ◌++◌, drop, map, refl, sym, ap, subst, append_assoc, append-nil, IsTrue, ◌↔◌, true≢false}
 use Rattle.std.proofs.lemmas.List.{map-append}
 use Rattle.po_base.specs.declared.token.Token.{Token}
 use Rattle.po_tree.specs.Signs.{Sign, sign_of, brace}

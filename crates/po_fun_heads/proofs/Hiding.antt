@@ -1,19 +1,18 @@
 -- What is hidden step by step is hidden, and the names that a well-formed head leaves in force in the body are those.
-use Rattle.std.proofs.Common.{◌≡◌, ◌∙◌, ℕ, Bool, true, List, [], ◌∷◌, ◌++◌, sym, subst, ap, refl, ◌⊎◌, inl, inr, ◌↔◌, Some, None}
+use Rattle.std.proofs.Common.{◌≡◌, ◌∙◌, ℕ, true, List, [], ◌∷◌, ◌++◌, sym, subst, ap, refl, ◌⊎◌, inl, inr, ◌↔◌, Some}
 use Rattle.std.specs.Prelude.{Contains, Option}
 use Rattle.std.proofs.lemmas.List.Elements.{Contains-append_left, Contains-append_right, Contains-append_cases}
 use Rattle.po_tree.specs.declared.expression.Specifier.{Specifier}
 use Rattle.po_tree.specs.declared.expression.Declarator.{Declarator}
 use Rattle.po_tree.specs.declared.expression.Param.{Param, out-Param}
-use Rattle.po_tree.specs.declared.declaration.Decl.{Decl}
 use Rattle.po_tree.specs.Expressions.{Typed, untyped}
 use Rattle.po_tree.specs.Declarations.{Specs, no_more_parts, declared, declaration}
 use Rattle.po_tree.specs.NameSets.{Hides}
 use Rattle.po_tree.specs.InForce.{InForce}
-use Rattle.po_tree.specs.Scope.{AreBehind, IsTypeBehind, HasWord, HidesTypes}
-use Rattle.po_tree.proofs.Sets.{none_contained, first_or_later, is_first, is_later}
+use Rattle.po_tree.specs.Scope.{AreBehind, IsTypeBehind, HidesTypes}
+use Rattle.po_tree.proofs.Sets.{none_contained, first_or_later, is_first}
 use Rattle.po_tree.proofs.Threaded.{piece_so}
-use Rattle.po_fun_heads.specs.Inside.{IsEnumerator, IsOfParameter, IsOfParameters, IsOfHead, HidesNames}
+use Rattle.po_fun_heads.specs.Inside.{IsEnumerator, IsOfParameter, IsOfParameters, HidesNames}
 
 -- one after the other
 

@@ -1,6 +1,5 @@
 -- The typedef names that a well-formed head leaves in force in the body are those that nothing in it hides.
-use Rattle.std.proofs.Common.{◌≡◌, ◌∙◌, ℕ, Bool, List, [], ◌∷◌, ◌++◌, sym, subst, ap, refl, ◌⊎◌, inl, inr, ◌↔◌, Some, None}
-use Rattle.std.specs.Prelude.{Contains, Option}
+use Rattle.std.proofs.Common.{◌≡◌, ◌∙◌, ℕ, Bool, List, [], ◌∷◌, ◌++◌, sym, subst, ap, refl, ◌⊎◌, inl, inr, Some}
 use Rattle.po_tree.specs.declared.expression.Specifier.{Specifier}
 use Rattle.po_tree.specs.declared.expression.Suffix.{Suffix, out-Suffix, out-roll-Suffix}
 use Rattle.po_tree.specs.declared.expression.Suffix.TheVariants as su
@@ -20,7 +19,7 @@ use Rattle.po_tree.proofs.Threaded.{without_to, without_from}
 use Rattle.po_decl_laws.proofs.One.{declarator_named}
 use Rattle.po_decl_steps.specs.Standing.{DeclarationStands}
 use Rattle.po_fun_heads.specs.Braces.{OpensBody}
-use Rattle.po_fun_heads.specs.Heads.{function_declarator, as_declaration, IsHead, head, HeadStands, Enters}
+use Rattle.po_fun_heads.specs.Heads.{function_declarator, as_declaration, IsHead, head, Enters}
 use Rattle.po_fun_heads.specs.Inside.{IsOfParameter, IsOfParameters, IsOfHead, HidesNames}
 use Rattle.po_fun_heads.proofs.Hiding.{hides_both, hides_such, specs_hidden}
 use Rattle.po_fun_heads.proofs.AsDeclarations.{head_of_declaration}

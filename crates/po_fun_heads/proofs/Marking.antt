@@ -1,15 +1,13 @@
 -- Marks that are made token by token.
-use Rattle.std.proofs.Common.{◌≡◌, ◌∙◌, ℕ, zero, suc, ◌≤◌, ◌<◌, ◌+◌, List, [], ◌∷◌, ◌++◌, length, map, take, drop, get_or, add-one, refl, sym, ap, subst, arith, append_assoc, append-nil, inl, inr, drop_of_length-le}
+use Rattle.std.proofs.Common.{◌≡◌, ◌∙◌, ℕ, suc, ◌≤◌, ◌<◌, ◌+◌, List, [], ◌∷◌, ◌++◌, length, map, take, drop, get_or, add-one, refl, sym, ap, subst, arith, append_assoc, inl, inr, drop_of_length-le}
 use Rattle.std.proofs.Math.Seq.{drop-cons, get_or-append_seam}
-use Rattle.std.proofs.Math.Nat.{le-suc_iff}
 use Rattle.std.proofs.lemmas.List.{length-take, get_or-take, length_push, map-append, get_or_append_left}
 use Rattle.std.proofs.lemmas.List.Elements.{Contains-append_cases}
 use Rattle.std.specs.Prelude.{Contains}
 use Rattle.po_base.specs.declared.token.Token.{Token}
-use Rattle.po_base.specs.declared.token.Tokens.{Tokens}
 use Rattle.po_tree.specs.Statements.{AreNumbered, numbered, old, new, AllDiffer}
 use Rattle.po_tree.proofs.Sets.{first_or_later, none_contained, is_first, is_later}
-use Rattle.po_fun_heads.specs.Marks.{spot, spots_between, marked, IsPlaceOf, known, first_seen, Marking}
+use Rattle.po_fun_heads.specs.Marks.{spot, marked, IsPlaceOf, known, first_seen, Marking}
 
 -- the token at a place of a range
 

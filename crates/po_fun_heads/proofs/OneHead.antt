@@ -10,7 +10,7 @@ use Rattle.po_tree.specs.Declarations.{without, IsDeclarator}
 use Rattle.po_decl_laws.specs.Fronts as fr
 use Rattle.po_decl_laws.proofs.Fronts.{declarator_ends}
 use Rattle.po_decl_laws.proofs.One.{one_specs, one_declarator, declarator_named, some_same}
-use Rattle.po_fun_heads.specs.Heads.{function_declarator, IsHead, head, HeadStands}
+use Rattle.po_fun_heads.specs.Heads.{IsHead, head, HeadStands}
 
 abbrev high : List Specifier → Declarator → ℕ
 high specs d = max (greatest (map specifier_height specs)) (declarator_height d)

@@ -1,7 +1,5 @@
-use Rattle.std.proofs.Common.{◌≡◌, ◌∙◌, ◌≤◌, ◌++◌, ◌∷◌, [], map, length, sym, ap, subst, arith}
+use Rattle.std.proofs.Common.{◌∙◌, ◌≤◌, [], length, sym, ap, subst, arith}
 use Rattle.std.proofs.lemmas.List.{length_push}
-use Rattle.po_tree.specs.Signs.{sign_of, semicolon}
-use Rattle.po_exp_parts.specs.Places.{signs_between}
 use Rattle.po_decl_steps.specs.Standing.{DeclarationStands}
 use Rattle.po_fun_heads.proofs.AsDeclarations.{whole_signs, none_whole, signs_left}
 use Rattle.po_fun_heads.proofs.heads.read_as_declaration.Goals as goal

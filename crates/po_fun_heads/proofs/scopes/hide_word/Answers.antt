@@ -1,7 +1,6 @@
 use Rattle.std.proofs.Common.{◌≡◌}
 use Rattle.po_lists.proofs.Results.{if_ok-map}
 use Rattle.po_tree.specs.Scope.{HidesTypes}
-use Rattle.po_fun_heads.specs.Inside.{HidesNames}
 use Rattle.po_fun_heads.proofs.Hiding.{word_hidden}
 use Rattle.po_fun_heads.proofs.scopes.hide_word.Goals as goal
 
