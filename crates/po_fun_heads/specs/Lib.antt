@@ -1,0 +1,4 @@
+pub mod Braces
+pub mod Inside
+pub mod Heads
+pub mod Marks
