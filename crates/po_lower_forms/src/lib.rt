@@ -1,0 +1,8 @@
+//! What each form of an expression adds to a graph that is being made, and the forms of names and steps by code.
+#![tactic(auto)]
+
+mod stepping;
+mod variables;
+
+pub use stepping::{Step, step_object, step_register};
+pub use variables::{variable_address, variable_value};
