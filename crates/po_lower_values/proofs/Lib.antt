@@ -1,2 +1,2 @@
 mod Fixed
-mod Added
+pub mod Added
