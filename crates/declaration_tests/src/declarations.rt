@@ -1,3 +1,4 @@
+// Tests of whole declarations, and of the names in force behind them.
 use crate::files::letters;
 use crate::texts::{expanded, names, tokens_of};
 use po_base::{Memory, Tokens};

@@ -1,3 +1,4 @@
+// Tests of initialisers.
 use crate::texts::{expanded, tokens_of};
 use po_base::{List, Memory};
 use po_init_read::read_init;

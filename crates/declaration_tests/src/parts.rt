@@ -1,3 +1,4 @@
+// Tests of the parts of declarations.
 use crate::texts::{names, tokens_of};
 use po_base::Memory;
 use po_decl_parts::{

@@ -1,3 +1,4 @@
+// The law of heads: there is one (C99 6.9.1).
 ghost use Rattle.std.specs.Prelude.{ℕ, ◌≡◌, List as Sequence};
 ghost use Rattle.po_tree.specs.declared.expression.Declarator.{Declarator as Declared};
 ghost use Rattle.po_tree.specs.declared.expression.Specifier.{Specifier as Spec};

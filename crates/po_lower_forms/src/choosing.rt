@@ -1,3 +1,4 @@
+// The value of a condition (C99 6.5.13, 6.5.14).
 ghost use Rattle.std.specs.Prelude.{◌≡◌, ◌≢◌, ◌<◌, ◌≤◌, length, IfOk};
 ghost use Rattle.po_tree.specs.declared.expression.Exp.{Exp};
 ghost use Rattle.po_tree.specs.declared.expression.Exp.TheOpen.{Exp-F};

@@ -1,3 +1,4 @@
+// Values that are stepped: `++` and `--` (C99 6.5.2.4, 6.5.3.1).
 ghost use Rattle.std.specs.Prelude.{ℕ, ◌≡◌, Some, None, IfOk};
 ghost use Rattle.po_base.specs.declared.operand.Opnd.TheVariants as o;
 ghost use Rattle.po_ir.specs.declared.instr.Instr.TheVariants as ins;

@@ -1,3 +1,4 @@
+// What a variable's name gives: its value, or its address (C99 6.5.1).
 ghost use Rattle.std.specs.Prelude.{ℕ, ◌≡◌, List, IfOk};
 ghost use Rattle.po_tree.specs.declared.expression.Exp.TheOpen.{Exp-F};
 ghost use Rattle.po_lowering.specs.Places.{Place};
