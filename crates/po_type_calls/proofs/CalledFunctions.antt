@@ -1,5 +1,5 @@
 -- Which functions a call calls.
-use Rattle.std.proofs.Common.{◌≡◌, ℕ, List, Option, Some, None, refl, sym, ap, ◌∙◌, subst, inl, inr, IfOk}
+use Rattle.std.proofs.Common.{◌≡◌, ℕ, List, Option, Some, sym, ap, ◌∙◌, subst, inl, inr, IfOk}
 use Rattle.std.specs.Prelude.{Result}
 use Rattle.po_arith.specs.declared.target.Target.{Target}
 use Rattle.po_base.specs.declared.memory.Memory.{Memory}

@@ -1,5 +1,5 @@
 -- What string literals read, and what a call of printf does with its format.
-use Rattle.std.proofs.Common.{◌≡◌, ℕ, ◌<◌, List, [], ◌∷◌, length, drop, get_or, Option, refl, sym, ap, ◌∙◌, subst}
+use Rattle.std.proofs.Common.{◌≡◌, ℕ, ◌<◌, List, [], ◌∷◌, length, drop, get_or, Option, sym, ap, ◌∙◌, subst}
 use Rattle.po_arith.specs.declared.target.Target.{Target}
 use Rattle.po_tree.specs.declared.expression.Exp.{Exp, out-Exp}
 use Rattle.po_tree.specs.declared.expression.Exp.TheOpen.{Exp-F}

@@ -1,6 +1,6 @@
 -- Arguments and the conversions of a format that read them, one by one.
-use Rattle.std.proofs.Common.{◌≡◌, ℕ, suc, ◌+◌, ◌<◌, ◌≤◌, List, [], ◌∷◌, ◌++◌, length, drop, get_or, append_assoc, refl, sym, ap, ◌∙◌, subst, arith}
-use Rattle.std.proofs.lemmas.List.{drop_all, append-nil}
+use Rattle.std.proofs.Common.{◌≡◌, ℕ, suc, ◌+◌, ◌<◌, ◌≤◌, List, [], ◌∷◌, ◌++◌, length, drop, get_or, append_assoc, refl, ap, subst, arith}
+use Rattle.std.proofs.lemmas.List.{drop_all, drop_more, append-nil}
 use Rattle.po_arith.specs.declared.target.Target.{Target}
 use Rattle.po_types.specs.declared.ctype.CType.{CType}
 use Rattle.po_types.specs.declared.format.Spec.{Spec}
@@ -42,20 +42,20 @@ module _ (target : Target) where
     pub ended : length vs ≡ length fs → (i : ℕ) → length fs ≤ i → (done : List CType) → IsDone i done → PrintsAll target fs vs done
     ended q i h done k = subst (PrintsAll target fs vs) (append-nil done) (k.sound [] (rw (drop_all i fs h, drop_all i vs (omega (arith, q, h))) prints_none))
 
-    module _ (i : ℕ) (g : Spec) (v : CType) (a : i < length fs) (b : i < length vs) (p : g ≡ get_or fs i g) (q : v ≡ get_or vs i v) where
-      to : (conversion : CType) (rest : List CType) → PrintsAs target g v conversion → From (i + 1) rest → From i (conversion ∷ rest)
-      to conversion rest h k = rw (at_place fs i g a p, at_place vs i v b q) (prints_one h k)
+    module _ (i : ℕ) (d : Spec) (v : CType) (a : i < length fs) (b : i < length vs) (q : v ≡ get_or vs i v) where
+      to : (conversion : CType) (rest : List CType) → PrintsAs target (get_or fs i d) v conversion → From (i + 1) rest → From i (conversion ∷ rest)
+      to conversion rest h k = rw (drop_more fs i d a, at_place vs i v b q) (prints_one h k)
 
-      of : (bs : List CType) → From i bs → First g (drop (i + 1) fs) v (drop (i + 1) vs)
+      of : (bs : List CType) → From i bs → First (get_or fs i d) (drop (i + 1) fs) v (drop (i + 1) vs)
       of bs h =
-          let h1 = subst (λ z. PrintsAll target z (drop i vs) bs) (at_place fs i g a p) h in
-          first (subst (λ z. PrintsAll target (g ∷ drop (i + 1) fs) z bs) (at_place vs i v b q) h1)
+          let h1 = subst (λ z. PrintsAll target z (drop i vs) bs) (drop_more fs i d a) h in
+          first (subst (λ z. PrintsAll target (get_or fs i d ∷ drop (i + 1) fs) z bs) (at_place vs i v b q) h1)
 
-      pub printed_on : (conversion : CType) (done more : List CType) → PrintsAs target g v conversion → more ≡ done ++ conversion ∷ [] → IsDone i done → IsDone (i + 1) more
+      pub printed_on : (conversion : CType) (done more : List CType) → PrintsAs target (get_or fs i d) v conversion → more ≡ done ++ conversion ∷ [] → IsDone i done → IsDone (i + 1) more
       printed_on conversion done more h e k = record {
         sound = λ rest r. rw (e, append_assoc) (k.sound (conversion ∷ rest) (to conversion rest h r));
         complete = λ bs r. let w = k.complete bs r in let f = of w.0 w.1 in (f.others, f.behind);
       }
 
-      pub stopped : ((conversion : CType) → PrintsAs target g v conversion → ⊥) → (done : List CType) → IsDone i done → (bs : List CType) → PrintsAll target fs vs bs → ⊥
+      pub stopped : ((conversion : CType) → PrintsAs target (get_or fs i d) v conversion → ⊥) → (done : List CType) → IsDone i done → (bs : List CType) → PrintsAll target fs vs bs → ⊥
       stopped n done k bs h = let w = k.complete bs h in let f = of w.0 w.1 in n f.conversion f.prints

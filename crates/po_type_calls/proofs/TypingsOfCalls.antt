@@ -74,17 +74,21 @@ module _ (parts : TypingsAreOfParts) (ctx : Context) where
     called = record { function = printf_type; result = int; conversions = c.Ptr char ∷ r.conversions };
     behind = qs ++ rs;
     operands = one_more_operand A r.operands;
-    calls = (printf_type, (codes "printf", (n, m)), inr (record {
-      named = n;
-      taken = refl;
-      printed = record {
-        reads = f.Text ∷ specs;
-        formats = record { first = y; others = xs; reads = specs; arguments = refl; format = record { texts = texts; values = values; literal = l; are_strings = s; reads = g }; all = refl };
-        prints = prints_one prints_text r.prints;
-      };
-      same = refl;
-      gives = refl;
-    }));
+    calls = (
+      printf_type,
+      (codes "printf", (n, m)),
+      inr (record {
+        named = n;
+        taken = refl;
+        printed = record {
+          reads = f.Text ∷ specs;
+          formats = record { first = y; others = xs; reads = specs; arguments = refl; format = record { texts = texts; values = values; literal = l; are_strings = s; reads = g }; all = refl };
+          prints = prints_one prints_text r.prints;
+        };
+        same = refl;
+        gives = refl;
+      }),
+    );
     type = refl;
     pairs = refl;
   }

@@ -1,5 +1,5 @@
 -- A typing of a call consists of typings of its arguments, of what their types make, and of the pairs in order (C99 6.5.2.2).
-use Rattle.std.specs.Prelude.{ℕ, ◌≡◌, ◌↔◌, List, [], ◌∷◌, ◌++◌}
+use Rattle.std.specs.Prelude.{◌≡◌, ◌↔◌, List, [], ◌∷◌, ◌++◌}
 use Rattle.po_tree.specs.declared.expression.Exp.{Exp}
 use Rattle.po_tree.specs.declared.expression.Exp.TheOpen.{Exp-F}
 use Rattle.po_types.specs.declared.ctype.CType.{CType}

@@ -7,9 +7,9 @@ ghost use Rattle.po_constants.specs.Found.{Finds};
 ghost use Rattle.po_choices.specs.Answering.{IsWhether};
 ghost use Rattle.po_type_calls.specs.Calling.{Printed, CallsFunction, CallsPrintf, Calls};
 
-use crate::reading::formats;
 use crate::passing::passes;
 use crate::printing::prints;
+use crate::reading::formats;
 use po_arith::IntType;
 use po_base::{List, Memory};
 use po_scopes::Context;

@@ -24,8 +24,7 @@ pub fn prints(
     }
     let mut conversions = List::new(alloc);
     for i in 0..specs.len() {
-        let spec = specs[i];
-        match prints_as(target, spec, &vs[i])? {
+        match prints_as(target, specs[i], &vs[i])? {
             None => return Ok(None),
             Some(conversion) => conversions.push(conversion)?,
         }
