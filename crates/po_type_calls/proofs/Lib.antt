@@ -1,0 +1,5 @@
+mod CalledFunctions
+mod Formatted
+mod Passed
+mod Printed
+mod TypingsOfCalls
