@@ -1,0 +1,2 @@
+mod ScalarValues
+mod SingleValues

@@ -1,0 +1,2 @@
+pub mod Initialising
+pub mod Laws
