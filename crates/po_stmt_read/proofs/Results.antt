@@ -1,0 +1,8 @@
+-- Two facts about a result.
+use Rattle.std.proofs.Common.{Ok, Err}
+use Rattle.std.specs.Prelude.{Result, IfOk}
+
+-- what follows of two facts about the value of a result
+pub both_of_ok : {T E : Type 0} {P Q R : T → Type 0} (r : Result T E) → ((x : T) → P x → Q x → R x) → IfOk r P → IfOk r Q → IfOk r R
+both_of_ok (Ok x) f p q = f x p q
+both_of_ok (Err e) f p q = tt
