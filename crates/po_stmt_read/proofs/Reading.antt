@@ -1,9 +1,10 @@
 -- What is read behind a start, part by part.
-use Rattle.std.proofs.Common.{◌≡◌, ◌∙◌, ℕ, suc, List, [], ◌∷◌, sym, subst, refl, ap, codes}
+use Rattle.std.proofs.Common.{◌≡◌, ◌∙◌, ◌+◌, ℕ, suc, List, [], ◌∷◌, sym, subst, refl, ap, codes}
 use Rattle.std.specs.Prelude.{Option, Some, None}
 use Rattle.po_base.specs.declared.token.Token.{Token}
 use Rattle.po_tree.specs.declared.expression.Exp.{Exp}
 use Rattle.po_tree.specs.declared.statement.Stmt.{Stmt}
+use Rattle.po_tree.specs.declared.statement.Stmt.TheVariants as st
 use Rattle.po_tree.specs.Signs.{Sign, word}
 use Rattle.po_exp_parts.specs.Places.{signs_between, Begins}
 use Rattle.po_decl_laws.proofs.Behind.{tails}
@@ -15,7 +16,7 @@ use Rattle.po_stmt_laws.specs.Reading.{StatementReads}
 use Rattle.po_stmt_laws.specs.Continuing.{BranchReads, alone, another, BranchesRead, RepeatedReads, ReadsOn}
 use Rattle.po_stmt_laws.proofs.Once.{no_room, one_statement_read}
 use Rattle.po_stmt_laws.proofs.ReadingOn.{reads_both}
-use Rattle.po_stmt_read.specs.Reads.{IsRead}
+use Rattle.po_stmt_read.specs.Reads.{IsRead, ElseReads}
 
 module _ {types : List (List ℕ)} where
   pub without_room : {room : ℕ} {signs left : List Sign} {s : Stmt} → room ≡ 0 → StatementReads types room signs s left → ⊥
@@ -36,16 +37,26 @@ read_started types room less tokens at behind to begun q h (Some p) w =
 module _ {types : List (List ℕ)} {room : ℕ} where
   -- `if`
 
-  pub without_branch : {signs between left : List Sign} {body s : Stmt} {x : Exp} → StatementReads types room signs body between →
-      ((other : Option Stmt) (rest : List Sign) → BranchReads types room between other rest → ⊥) → BranchesRead types room x signs s left → ⊥
-  without_branch {left = left} w none b =
-      let c = one_statement_read w b.reads in
-      none b.other left (subst (λ z. BranchReads types room z b.other left) (sym c.1) b.branch)
+  -- no `else` stands behind the first statement
+  pub if_alone : {signs between : List Sign} {body : Stmt} {x : Exp} → StatementReads types room signs body between → (Begins (word (codes "else")) between → ⊥) →
+      BranchesRead types room x signs (st.If x body None) between
+  if_alone {between = between} {body = body} w none = record { body = body; other = None; between = between; whole = refl; reads = w; branch = alone none }
 
-  pub without_other : {signs inside left : List Sign} {other : Option Stmt} → signs ≡ word (codes "else") ∷ inside → ((t : Stmt) (rest : List Sign) → StatementReads types room inside t rest → ⊥) →
-      BranchReads types room signs other left → ⊥
-  without_other q none (alone n) = n (subst (Begins (word (codes "else"))) (sym q) refl)
-  without_other q none (another t behind left r v) = none t left (subst (λ z. StatementReads types room z t left) (tails (sym r ∙ q)) v)
+  if_else : {signs between inside left : List Sign} {body s : Stmt} {x : Exp} → StatementReads types room signs body between → between ≡ word (codes "else") ∷ inside → ElseReads types room x body inside s left →
+      BranchesRead types room x signs s left
+  if_else {between = between} {inside = inside} {left = left} {body = body} w q e =
+      record { body = body; other = Some e.other; between = between; whole = e.whole; reads = w; branch = another e.other inside left q e.reads }
+
+  else_behind : {between inside left : List Sign} {body s : Stmt} {x : Exp} {other : Option Stmt} → between ≡ word (codes "else") ∷ inside → s ≡ st.If x body other → BranchReads types room between other left →
+      ElseReads types room x body inside s left
+  else_behind q r (alone none) = absurd (none (subst (Begins (word (codes "else"))) (sym q) refl))
+  else_behind q r (another t behind left p v) = record { other = t; whole = r; reads = subst (λ z. StatementReads types room z t left) (tails (sym p ∙ q)) v }
+
+  else_of : {signs between inside left : List Sign} {body s : Stmt} {x : Exp} → StatementReads types room signs body between → between ≡ word (codes "else") ∷ inside → BranchesRead types room x signs s left →
+      ElseReads types room x body inside s left
+  else_of {left = left} {x = x} w q b =
+      let c = one_statement_read w b.reads in
+      else_behind q (b.whole ∙ ap (λ z. st.If x z b.other) (sym c.0)) (subst (λ z. BranchReads types room z b.other left) (sym c.1) b.branch)
 
   -- `do`
 
@@ -54,3 +65,10 @@ module _ {types : List (List ℕ)} {room : ℕ} where
   without_test {left = left} w none b =
       let c = one_statement_read w b.reads in
       none b.value left (subst (λ z. TestStands types z b.value left) (sym c.1) b.test)
+
+-- what is answered behind an `else` is the answer of the whole `if`
+pub else_answer : (types : List (List ℕ)) (room : ℕ) (tokens : List Token) (at between to : ℕ) (x : Exp) (body : Stmt) → StatementReads types room (signs_between tokens at to) body (signs_between tokens between to) →
+    signs_between tokens between to ≡ word (codes "else") ∷ signs_between tokens (between + 1) to → (found : Option (Stmt × ℕ)) → IsRead (ElseReads types room x body) tokens (between + 1) to found →
+    IsRead (BranchesRead types room x) tokens at to found
+else_answer types room tokens at between to x body w q None none = λ s left b. none s left (else_of w q b)
+else_answer types room tokens at between to x body w q (Some p) e = if_else w q e

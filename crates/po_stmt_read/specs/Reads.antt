@@ -33,3 +33,9 @@ pub record LoopReads (types : List (List ℕ)) (room : ℕ) (d : Decl) (signs : 
   pub whole : s ≡ st.For (f.Variables d) test step body
   pub steps : StepsStand types signs test step last
   pub reads : StatementReads types room last body left
+
+-- the statement behind an `else`, and the `if` that it makes with what stands before it (6.8.4.1)
+pub record ElseReads (types : List (List ℕ)) (room : ℕ) (x : Exp) (body : Stmt) (signs : List Sign) (s : Stmt) (left : List Sign) : Type 0 where
+  pub other : Stmt
+  pub whole : s ≡ st.If x body (Some other)
+  pub reads : StatementReads types room signs other left

@@ -7,8 +7,8 @@ ghost use Rattle.po_tree.specs.Signs.{Sign};
 ghost use Rattle.po_exp_parts.specs.Places.{signs_between};
 ghost use Rattle.po_fun_parts.specs.Standing.{first_of};
 ghost use Rattle.po_stmt_laws.specs.Reading.{StatementReads, ItemsRead, BodyStands};
-ghost use Rattle.po_stmt_laws.specs.Continuing.{BodyReads, BranchReads, BranchesRead, RepeatedReads, VariablesRead, BlockReads, ReadsOn};
-ghost use Rattle.po_stmt_read.specs.Reads.{IsRead, IsItemRead, LoopReads};
+ghost use Rattle.po_stmt_laws.specs.Continuing.{BodyReads, BranchesRead, RepeatedReads, VariablesRead, BlockReads, ReadsOn};
+ghost use Rattle.po_stmt_read.specs.Reads.{IsRead, IsItemRead, ElseReads, LoopReads};
 
 use po_base::{Boxed, List, Memory, Text, Tokens};
 use po_decl_read::read_decl_at;
@@ -28,6 +28,34 @@ fn first_of(x: Option<Exp>) -> First
         Some(x) => First::Value(x),
         None => First::Nothing,
     }
+}
+
+/// The head of a `for` (C99 6.8.5.3). It is on the heap while its statement is read, so that statements in statements take little of the stack.
+#[derive(Drop)]
+struct ForHead {
+    first: First,
+    test: Option<Exp>,
+    step: Option<Exp>,
+}
+
+/// The head of a `for` of its parts.
+fn for_head(
+    alloc: Global,
+    first: First,
+    test: Option<Exp>,
+    step: Option<Exp>,
+) -> Result<Boxed<ForHead>, Memory>
+    ensures { IfOk result (λ head. head ≡ record { first = first; test = test; step = step }) }
+{
+    Boxed::new(alloc, ForHead { first, test, step })
+}
+
+/// A `for` of its head and its statement.
+fn with_body(head: Boxed<ForHead>, body: Boxed<Stmt>) -> Stmt
+    ensures { result ≡ st.For head.first head.test head.step body }
+{
+    let ForHead { first, test, step } = head.into_inner();
+    Stmt::For(first, test, step, body)
 }
 
 /// The statement that stands at a place, none of whose paths has more statements than there is room for.
@@ -74,7 +102,7 @@ fn read_on(
         Start::If(x) => branches(alloc, tokens, x, at, to, names, room),
         Start::While(x) => while_loop(alloc, tokens, x, at, to, names, room),
         Start::Do => do_loop(alloc, tokens, at, to, names, room),
-        Start::For(x, y, z) => for_loop(alloc, tokens, first_of(x), y, z, at, to, names, room),
+        Start::For(x, y, z) => plain_for(alloc, tokens, x, y, z, at, to, names, room),
         Start::ForVariables => variables(alloc, tokens, at, to, names, room),
         Start::Switch(x) => switch_statement(alloc, tokens, x, at, to, names, room),
         Start::Case(x) => case_statement(alloc, tokens, x, at, to, names, room),
@@ -125,12 +153,12 @@ fn while_loop(
     Ok(Some((Stmt::While(x, body), end)))
 }
 
-/// The statement behind the head of a `for` (C99 6.8.5.3).
+/// The statement behind the head of a `for` with expressions, or none (C99 6.8.5.3).
 #[cycle(statements)]
-fn for_loop(
+fn plain_for(
     alloc: Global,
     tokens: &Tokens,
-    first: First,
+    first: Option<Exp>,
     test: Option<Exp>,
     step: Option<Exp>,
     at: u32,
@@ -138,14 +166,33 @@ fn for_loop(
     names: &mut Names,
     room: u32,
 ) -> Result<Option<(Stmt, u32)>, Memory>
-    ensures read { (types : Sequence (Sequence ℕ)) → AreSame types names.old.typedefs → IfOk result (λ found. IsRead (BodyReads (st.For first test step) types room) tokens.now.list at to found) }
+    ensures read { (types : Sequence (Sequence ℕ)) → AreSame types names.old.typedefs → IfOk result (λ found. IsRead (BodyReads (st.For (first_of first) test step) types room) tokens.now.list at to found) }
+    ensures within { IfOk result (λ found. IfSome found (λ p. (at < p.1) × (p.1 ≤ to) × (p.1 ≤ length tokens.now.list))) }
+    ensures kept { IfOk result (λ _. names.new ≡ names.old) }
+{
+    let head = for_head(alloc, first_of(first), test, step)?;
+    for_loop(alloc, tokens, head, at, to, names, room)
+}
+
+/// The statement behind the head of a `for` (C99 6.8.5.3).
+#[cycle(statements)]
+fn for_loop(
+    alloc: Global,
+    tokens: &Tokens,
+    head: Boxed<ForHead>,
+    at: u32,
+    to: u32,
+    names: &mut Names,
+    room: u32,
+) -> Result<Option<(Stmt, u32)>, Memory>
+    ensures read { (types : Sequence (Sequence ℕ)) → AreSame types names.old.typedefs → IfOk result (λ found. IsRead (BodyReads (st.For head.first head.test head.step) types room) tokens.now.list at to found) }
     ensures within { IfOk result (λ found. IfSome found (λ p. (at < p.1) × (p.1 ≤ to) × (p.1 ≤ length tokens.now.list))) }
     ensures kept { IfOk result (λ _. names.new ≡ names.old) }
 {
     let Some((body, end)) = part(alloc, tokens, at, to, names, room)? else {
         return Ok(None);
     };
-    Ok(Some((Stmt::For(first, test, step, body), end)))
+    Ok(Some((with_body(head, body), end)))
 }
 
 /// The statement behind `switch (x)` (C99 6.8.4.2).
@@ -231,7 +278,7 @@ fn labelled_statement(
     Ok(Some((Stmt::Label(name, body), end)))
 }
 
-/// The statements of an `if`, from behind its parentheses (C99 6.8.4.1).
+/// The statements of an `if`, from behind its parentheses: an `else` belongs to the nearest `if` (C99 6.8.4.1p3).
 #[cycle(statements)]
 fn branches(
     alloc: Global,
@@ -249,34 +296,32 @@ fn branches(
     let Some((body, between)) = part(alloc, tokens, at, to, names, room)? else {
         return Ok(None);
     };
-    let Some((other, end)) = branch(alloc, tokens, between, to, names, room)? else {
-        return Ok(None);
-    };
-    Ok(Some((Stmt::If(x, body, other), end)))
+    if !word_stands(tokens, between, to, b"else") {
+        return Ok(Some((Stmt::If(x, body, None), between)));
+    }
+    behind_else(alloc, tokens, x, body, between + 1, to, names, room)
 }
 
-/// The `else` with its statement behind the first statement of an `if`, where one stands there (C99 6.8.4.1).
+/// The statement behind the `else` of an `if` (C99 6.8.4.1).
 #[cycle(statements)]
-fn branch(
+fn behind_else(
     alloc: Global,
     tokens: &Tokens,
+    x: Exp,
+    body: Boxed<Stmt>,
     at: u32,
     to: u32,
     names: &mut Names,
     room: u32,
-) -> Result<Option<(Option<Boxed<Stmt>>, u32)>, Memory>
-    requires { (at ≤ to) × (at ≤ length tokens.now.list) }
-    ensures read { (types : Sequence (Sequence ℕ)) → AreSame types names.old.typedefs → IfOk result (λ found. IsRead (BranchReads types room) tokens.now.list at to found) }
-    ensures within { IfOk result (λ found. IfSome found (λ p. (at ≤ p.1) × (p.1 ≤ to) × (p.1 ≤ length tokens.now.list))) }
+) -> Result<Option<(Stmt, u32)>, Memory>
+    ensures read { (types : Sequence (Sequence ℕ)) → AreSame types names.old.typedefs → IfOk result (λ found. IsRead (ElseReads types room x body) tokens.now.list at to found) }
+    ensures within { IfOk result (λ found. IfSome found (λ p. (at < p.1) × (p.1 ≤ to) × (p.1 ≤ length tokens.now.list))) }
     ensures kept { IfOk result (λ _. names.new ≡ names.old) }
 {
-    if !word_stands(tokens, at, to, b"else") {
-        return Ok(Some((None, at)));
-    }
-    let Some((other, end)) = part(alloc, tokens, at + 1, to, names, room)? else {
+    let Some((other, end)) = part(alloc, tokens, at, to, names, room)? else {
         return Ok(None);
     };
-    Ok(Some((Some(other), end)))
+    Ok(Some((Stmt::If(x, body, Some(other)), end)))
 }
 
 /// The statement of a `do`, and its test (C99 6.8.5.2).
@@ -361,7 +406,8 @@ fn behind_variables(
     let Some((test, step, last)) = steps_at(alloc, tokens, at, to, names)? else {
         return Ok(None);
     };
-    for_loop(alloc, tokens, First::Variables(d), test, step, last, to, names, room)
+    let head = for_head(alloc, First::Variables(d), test, step)?;
+    for_loop(alloc, tokens, head, last, to, names, room)
 }
 
 /// The block at a place behind its opening brace (C99 6.8.2).
@@ -447,13 +493,11 @@ fn item(
     if room == 0 {
         return Ok(None);
     }
-    match read_decl_at(alloc, tokens, at, to, names)? {
-        Some((d, end)) => {
-            names.declare(alloc, &d)?;
-            Ok(Some((Stmt::Declare(d), end)))
-        }
-        None => statement(alloc, tokens, at, to, names, room),
-    }
+    let Some((d, end)) = read_decl_at(alloc, tokens, at, to, names)? else {
+        return statement(alloc, tokens, at, to, names, room);
+    };
+    names.declare(alloc, &d)?;
+    Ok(Some((Stmt::Declare(d), end)))
 }
 
 /// The body of a function at a place of `tokens` behind its opening brace (C99 6.9.1): its statements and declarations, with the closing brace before the

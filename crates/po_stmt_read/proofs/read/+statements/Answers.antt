@@ -1,11 +1,12 @@
 use Rattle.std.proofs.Common.{◌≡◌, ◌∙◌, ◌∷◌, ◌++◌, ◌+◌, ◌-◌, suc, [], arith, sym, ap, refl, subst}
 use Rattle.std.proofs.lemmas.Result.{IfOk-weaker}
 use Rattle.std.proofs.lemmas.Bool.{iff_false}
+use Rattle.po_tree.specs.NameSets.{AreSame}
 use Rattle.po_exp_parts.specs.Places.{signs_between}
-use Rattle.po_stmt_laws.specs.Continuing.{alone, another, declaration}
+use Rattle.po_stmt_laws.specs.Continuing.{declaration}
 use Rattle.po_stmt_read.proofs.Results.{both_of_ok}
 use Rattle.po_stmt_read.proofs.SameNames.{declaration_as, names_behind, same_back}
-use Rattle.po_stmt_read.proofs.Reading.{without_room, without_start, read_started, without_branch, without_other, without_test}
+use Rattle.po_stmt_read.proofs.Reading.{without_room, without_start, read_started, if_alone, else_answer, without_test}
 use Rattle.po_stmt_read.proofs.Variables.{without_declaration, variables_answer, loop_answer}
 use Rattle.po_stmt_read.proofs.Items.{no_items_lead, item_leads, items_end, without_item, item_without_room, statement_is_item}
 use Rattle.po_stmt_read.proofs.read.+statements.Goals as goal
@@ -42,7 +43,10 @@ pub for_loop-returns-in_default-clause-read : goal.for_loop-returns-in_default-c
 for_loop-returns-in_default-clause-read t c = λ types same s left h. (rw c.in_default.is at (c.in_ok-body.ensures.read types same)) h.body left h.reads
 
 pub for_loop-returns-clause-read : goal.for_loop-returns-clause-read
-for_loop-returns-clause-read t c = λ types same. record { body = c.in-Some.body; whole = refl; reads = rw c.in-Some.is at (c.in_ok-body.ensures.read types same) }
+for_loop-returns-clause-read t c = λ types same. record { body = c.in-Some.body; whole = c.with_body.ensures; reads = rw c.in-Some.is at (c.in_ok-body.ensures.read types same) }
+
+pub plain_for-returns-clause-read : goal.plain_for-returns-clause-read
+plain_for-returns-clause-read t c = λ types same. rw c.first_of.ensures at (rw c.in_ok-head.ensures at (c.for_loop.ensures.read types same))
 
 pub switch_statement-returns-in_default-clause-read : goal.switch_statement-returns-in_default-clause-read
 switch_statement-returns-in_default-clause-read t c = λ types same s left h. (rw c.in_default.is at (c.in_ok-body.ensures.read types same)) h.body left h.reads
@@ -73,29 +77,21 @@ labelled_statement-returns-clause-read t c = λ types same. record { body = c.in
 pub branches-returns-in_default-clause-read : goal.branches-returns-in_default-clause-read
 branches-returns-in_default-clause-read t c = λ types same s left h. (rw c.in_default.is at (c.in_ok-body.ensures.read types same)) h.body h.between h.reads
 
-pub branches-returns-in_default-2-clause-read : goal.branches-returns-in_default-2-clause-read
-branches-returns-in_default-2-clause-read t c = λ types same s left h.
-    without_branch (rw c.in-Some.is at (c.in_ok-body.ensures.read types same)) (rw c.in_default-2.is at (c.in_ok-other.ensures.read types (rw c.in_ok-body.ensures.kept same))) h
+pub branches-returns-then-not-word_stands-clause-read : goal.branches-returns-then-not-word_stands-clause-read
+branches-returns-then-not-word_stands-clause-read t c = λ types same.
+    if_alone (rw c.in-Some.is at (c.in_ok-body.ensures.read types same)) (iff_false c.if-not-word_stands.ensures.first refl)
 
 pub branches-returns-clause-read : goal.branches-returns-clause-read
-branches-returns-clause-read t c = λ types same. record {
-  body = c.in-Some.body;
-  other = c.in-Some-2.other;
-  between = _;
-  whole = refl;
-  reads = rw c.in-Some.is at (c.in_ok-body.ensures.read types same);
-  branch = rw c.in-Some-2.is at (c.in_ok-other.ensures.read types (rw c.in_ok-body.ensures.kept same));
-}
+branches-returns-clause-read t c = λ types same.
+    let body = rw c.in-Some.is at (c.in_ok-body.ensures.read types same) in
+    IfOk-weaker c.behind_else.result _ _ (else_answer types c.args.room c.args.tokens.now.list c.args.at c.in-Some.between c.args.to c.args.x c.in-Some.body body c.if-not-word_stands.ensures.behind)
+    (c.behind_else.ensures.read types (rw c.in_ok-body.ensures.kept same))
 
-pub branch-returns-then-not-word_stands-clause-read : goal.branch-returns-then-not-word_stands-clause-read
-branch-returns-then-not-word_stands-clause-read t c = λ types same. alone (iff_false c.if-not-word_stands.ensures.first refl)
+pub behind_else-returns-in_default-clause-read : goal.behind_else-returns-in_default-clause-read
+behind_else-returns-in_default-clause-read t c = λ types same s left h. (rw c.in_default.is at (c.in_ok-other.ensures.read types same)) h.other left h.reads
 
-pub branch-returns-in_default-clause-read : goal.branch-returns-in_default-clause-read
-branch-returns-in_default-clause-read t c = λ types same other left h.
-    without_other c.if-not-word_stands.ensures.behind (rw c.in_default.is at (c.in_ok-other.ensures.read types same)) h
-
-pub branch-returns-clause-read : goal.branch-returns-clause-read
-branch-returns-clause-read t c = λ types same. another c.in-Some.other _ _ c.if-not-word_stands.ensures.behind (rw c.in-Some.is at (c.in_ok-other.ensures.read types same))
+pub behind_else-returns-clause-read : goal.behind_else-returns-clause-read
+behind_else-returns-clause-read t c = λ types same. record { other = c.in-Some.other; whole = refl; reads = rw c.in-Some.is at (c.in_ok-other.ensures.read types same) }
 
 -- `do`
 
@@ -118,6 +114,9 @@ do_loop-returns-clause-read t c = λ types same. record {
 
 -- `for` with a declaration first
 
+pub variables-returns-clause-read : goal.variables-returns-clause-read
+variables-returns-clause-read t c = rw c.in_ok-open_scope.ensures.ok at c.in_ok-found.ensures.read
+
 pub variables_inside-returns-in_default-clause-read : goal.variables_inside-returns-in_default-clause-read
 variables_inside-returns-in_default-clause-read t c = λ types same s left h.
     let none = rw c.in_default.is at c.in_ok-d.ensures.none in
@@ -135,7 +134,8 @@ behind_variables-returns-in_default-clause-read t c = λ types same s left h. (r
 pub behind_variables-returns-clause-read : goal.behind_variables-returns-clause-read
 behind_variables-returns-clause-read t c = λ types same.
     let steps = rw c.in-Some.is at (c.in_ok-test.ensures.found types same) in
-    IfOk-weaker c.for_loop.result _ _ (loop_answer types c.args.room c.args.tokens.now.list c.args.at c.in-Some.last c.args.to c.args.d c.in-Some.test c.in-Some.step steps) (c.for_loop.ensures.read types same)
+    IfOk-weaker c.for_loop.result _ _ (loop_answer types c.args.room c.args.tokens.now.list c.args.at c.in-Some.last c.args.to c.args.d c.in-Some.test c.in-Some.step steps)
+    (rw c.in_ok-head.ensures at (c.for_loop.ensures.read types same))
 
 -- blocks
 
@@ -147,7 +147,7 @@ block-returns-clause-read t c = λ types same. record { xs = c.in-Some.xs; whole
 
 pub items_inside-loop-alloc-init : goal.items_inside-loop-alloc-init
 items_inside-loop-alloc-init t c = record {
-  leads = λ types same. (types, same, no_items_lead types c.args.room (signs_between c.args.tokens.now.list c.args.at c.args.to));
+  leads = λ types same. (types, same, rw c.new-xs.ensures (no_items_lead types c.args.room (signs_between c.args.tokens.now.list c.args.at c.args.to)));
   scopes = refl;
   after = omega arith;
 }
@@ -160,7 +160,7 @@ items_inside-loop-alloc-preserved t c =
       leads = λ types same.
           let b = i.leads types same in
           let x = rw c.in-Some.is at (c.in_ok-x.ensures.read b.0 b.1) in
-          (x.0, x.1, rw c.in_ok-push.ensures (item_leads (iff_false c.while-not-stands.ensures.first refl) b.2 x.2));
+          (x.0, x.1, rw c.in_ok-push.ensures.ok (item_leads (iff_false c.stands.ensures.first c.loop-alloc-test.true) b.2 x.2));
       scopes = c.in_ok-x.ensures.kept ∙ i.scopes;
       after = omega (arith, i.after, place.0);
     }
@@ -168,26 +168,29 @@ items_inside-loop-alloc-preserved t c =
 pub items_inside-returns-in_default-clause-read : goal.items_inside-returns-in_default-clause-read
 items_inside-returns-in_default-clause-read t c = λ types same zs left h.
     let b = c.loop-alloc.invariant.leads types same in
-    without_item (iff_false c.while-not-stands.ensures.first refl) (rw c.in_default.is at (c.in_ok-x.ensures.read b.0 b.1)) b.2 h
+    without_item (iff_false c.stands.ensures.first c.loop-alloc-test.true) (rw c.in_default.is at (c.in_ok-x.ensures.read b.0 b.1)) b.2 h
 
 pub items_inside-returns-clause-read : goal.items_inside-returns-clause-read
-items_inside-returns-clause-read t c = λ types same. items_end (c.loop-alloc.invariant.leads types same).2 c.while-not-stands.ensures.behind
+items_inside-returns-clause-read t c = λ types same. items_end (c.loop-alloc.invariant.leads types same).2 (rw c.loop-alloc-test.false at c.stands.ensures.behind)
+
+pub items-returns-clause-read : goal.items-returns-clause-read
+items-returns-clause-read t c = rw c.in_ok-open_scope.ensures.ok at c.in_ok-found.ensures.read
 
 -- an item
 
 pub item-returns-then-room-eq0-clause-read : goal.item-returns-then-room-eq0-clause-read
 item-returns-then-room-eq0-clause-read t c = λ types same s inner left h. item_without_room (omega (arith, c.if-room-eq0.true)) h
 
-pub item-returns-in-Some-clause-read : goal.item-returns-in-Some-clause-read
-item-returns-in-Some-clause-read t c = λ types same.
-    let d = declaration_as (same_back types _ same) (rw c.in-Some.is at c.in_ok-read_decl_at.ensures.found) in
-    let inner = names_behind same d (rw c.in_ok-read_decl_at.ensures.kept at c.in_ok-declare.ensures.0) in
+pub item-returns-clause-read : goal.item-returns-clause-read
+item-returns-clause-read t c = λ types same.
+    let d = declaration_as (same_back types _ same) (rw c.in-Some.is at c.in_ok-d.ensures.found) in
+    let inner = names_behind same d (rw c.in_ok-d.ensures.kept at c.in_ok-declare.ensures.0) in
     (d.behind, inner, declaration c.in-Some.d d.behind _ (omega (arith, c.if-room-eq0.false)) d.formed d.nested d.printed)
 
-pub item-returns-in-None-clause-read : goal.item-returns-in-None-clause-read
-item-returns-in-None-clause-read t c = λ types same.
-    let none = rw c.in-None.is at c.in_ok-read_decl_at.ensures.none in
-    let now = rw c.in_ok-read_decl_at.ensures.kept same in
+pub item-returns-in_default-clause-read : goal.item-returns-in_default-clause-read
+item-returns-in_default-clause-read t c = λ types same.
+    let none = rw c.in_default.is at c.in_ok-d.ensures.none in
+    let now = subst (λ z. AreSame types z.typedefs) (sym c.in_ok-d.ensures.kept) same in
     both_of_ok c.statement.result
-    (λ found read kept. statement_is_item types _ c.args.room c.args.tokens.now.list c.args.at c.args.to (rw kept now) (λ d rest w. none d rest (declaration_as same w)) found read)
+    (λ found read kept. statement_is_item types _ c.args.room c.args.tokens.now.list c.args.at c.args.to (subst (λ z. AreSame types z.typedefs) (sym kept) now) (λ d rest w. none d rest (declaration_as same w)) found read)
     (c.statement.ensures.read types now) c.statement.ensures.kept

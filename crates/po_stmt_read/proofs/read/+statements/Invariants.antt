@@ -16,6 +16,9 @@ decreases-while_loop l = 8 * l.room + 2
 abbrev pub decreases-for_loop : goal.decreases-for_loop
 decreases-for_loop l = 8 * l.room + 2
 
+abbrev pub decreases-plain_for : goal.decreases-plain_for
+decreases-plain_for l = 8 * l.room + 3
+
 abbrev pub decreases-switch_statement : goal.decreases-switch_statement
 decreases-switch_statement l = 8 * l.room + 2
 
@@ -28,8 +31,8 @@ decreases-default_statement l = 8 * l.room + 2
 abbrev pub decreases-labelled_statement : goal.decreases-labelled_statement
 decreases-labelled_statement l = 8 * l.room + 2
 
-abbrev pub decreases-branch : goal.decreases-branch
-decreases-branch l = 8 * l.room + 2
+abbrev pub decreases-behind_else : goal.decreases-behind_else
+decreases-behind_else l = 8 * l.room + 2
 
 abbrev pub decreases-branches : goal.decreases-branches
 decreases-branches l = 8 * l.room + 3
